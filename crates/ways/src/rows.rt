@@ -1,7 +1,7 @@
 ghost use mathlib.Core.Path.{_≡_};
 ghost use Prim.Native.Nat.{ℕ};
 ghost use Rattle.ways.specs.RowFirsts.{rowFirstWay, rowFirstKey};
-use crate::way_finder::WayFinder;
+use crate::finder::WayFinder;
 use map::side::Side;
 use orders::key::ByParts;
 use orders::key::BySize;
