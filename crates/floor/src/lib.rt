@@ -1,0 +1,2 @@
+// A floor of trays over a map and any way-finder.
+pub mod floor;

@@ -1,0 +1,12 @@
+pub mod Ahead
+pub mod Lists
+pub mod Sums
+pub mod Says
+pub mod Views
+pub mod Ways
+pub mod Agrees
+pub mod Steps
+pub mod Walks
+pub mod Tops
+pub mod Falls
+pub mod Keeps
