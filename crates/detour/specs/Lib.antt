@@ -1,0 +1,3 @@
+pub mod Vias
+pub mod Detours
+pub mod Promises
