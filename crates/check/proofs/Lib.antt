@@ -1,0 +1,9 @@
+pub mod Marks
+pub mod Wants
+pub mod Counts
+pub mod Rises
+pub mod AllPairs
+pub mod Joins
+pub mod Larger
+pub mod Decides
+pub mod Loops
