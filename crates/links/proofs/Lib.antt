@@ -1,0 +1,12 @@
+pub mod Chains
+pub mod Covers
+pub mod Layers
+pub mod Nearby
+pub mod Ups
+pub mod Lines
+pub mod Parents
+pub mod Ascents
+pub mod Ranks
+pub mod Trips
+pub mod Turns
+pub mod Grown

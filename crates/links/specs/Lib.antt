@@ -1,0 +1,6 @@
+pub mod Links
+pub mod Groups
+pub mod Distances
+pub mod Trees
+pub mod Ways
+pub mod Courses

@@ -1,0 +1,5 @@
+mod Texts
+mod Digits
+mod Words
+mod Readings
+mod Sayings

@@ -1,0 +1,35 @@
+-- The words that a line can begin with, and what they stand for.
+use mathlib.Core.Bool.{Bool, true, false, cond, _&&_}
+use mathlib.Core.List.{List, [], _∷_}
+use Prim.Native.Nat.{ℕ}
+use lib.Dec.{eqb}
+use lib.Chars.{codes}
+use Rattle.std.specs.declared.option.Option.{Option}
+use Rattle.std.specs.declared.option.Option.the-variants.{Some, None}
+use Rattle.script.specs.declared.verb.Verb.{Verb}
+use Rattle.script.specs.declared.verb.Verb.the-variants.{Map, Stop, Unmark, Close, Reopen, Draw}
+use Rattle.script.specs.declared.verb.Kind.{Kind}
+use Rattle.script.specs.declared.verb.Kind.the-variants.{Table, Segment}
+
+-- two texts are the same, byte by byte
+abbrev pub sameText : List ℕ → List ℕ → Bool
+sameText [] [] = true
+sameText [] (y ∷ ys) = false
+sameText (x ∷ xs) [] = false
+sameText (x ∷ xs) (y ∷ ys) = eqb x y && sameText xs ys
+
+-- the first word of a line says which call it is
+abbrev pub verbOf : List ℕ → Option Verb
+verbOf w =
+    cond (sameText w (codes "map")) (Some Map)
+    (cond (sameText w (codes "stop")) (Some Stop)
+    (cond (sameText w (codes "unmark")) (Some Unmark)
+    (cond (sameText w (codes "close")) (Some Close)
+    (cond (sameText w (codes "reopen")) (Some Reopen)
+    (cond (sameText w (codes "draw")) (Some Draw) None)))))
+
+-- what is closed or reopened is a table or a segment
+abbrev pub kindOf : List ℕ → Option Kind
+kindOf w =
+    cond (sameText w (codes "table")) (Some Table)
+    (cond (sameText w (codes "segment")) (Some Segment) None)

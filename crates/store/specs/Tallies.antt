@@ -1,0 +1,36 @@
+-- Which lines are counted as what, and how the counts are told.
+use mathlib.Core.Bool.{Bool, true, false, cond}
+use mathlib.Core.List.{List, _++_}
+use Prim.Native.Nat.{ℕ, zero, suc, _+_, _-_, _^_, min}
+use lib.Dec.{eqb}
+use lib.Chars.{codes}
+use Rattle.std.specs.Written.{decimal}
+use Rattle.std.specs.declared.result.Result.{Result}
+use Rattle.std.specs.declared.result.Result.the-variants.{Ok, Err}
+use Rattle.store.specs.declared.outcome.Outcome.{Outcome}
+use Rattle.store.specs.declared.outcome.Wrong.{Wrong}
+use Rattle.store.specs.declared.tally.Tally.{Tally}
+use Rattle.store.specs.Answers.{isRefusal}
+
+-- a count that has reached the largest number of 64 bits stays there
+abbrev pub oneMore : ℕ → ℕ
+oneMore n = min (n + 1) (2 ^ 64 - 1)
+
+abbrev pub noneYet : Tally
+noneYet = record { calls = 0; refused = 0; errors = 0 }
+
+-- a refused call is a call, and a bad line is none
+abbrev pub counted : Tally → Result Outcome Wrong → Tally
+counted t (Ok o) = record { calls = oneMore (t .calls); refused = cond (isRefusal o) (oneMore (t .refused)) (t .refused); errors = t .errors }
+counted t (Err w) = record { calls = t .calls; refused = t .refused; errors = oneMore (t .errors) }
+
+-- errors are told only where there are some
+abbrev pub tallyText : Tally → List ℕ
+tallyText t =
+    cond (eqb (t .errors) 0) (codes "calls " ++ (decimal (t .calls) ++ (codes ", refused " ++ decimal (t .refused))))
+    (codes "calls " ++ (decimal (t .calls) ++ (codes ", refused " ++ (decimal (t .refused) ++ (codes ", errors " ++ decimal (t .errors))))))
+
+-- of how many numbers below n the answer is yes
+unfoldable pub howManyBelow : (ℕ → Bool) → ℕ → ℕ
+howManyBelow f zero = 0
+howManyBelow f (suc n) = cond (f n) 1 0 + howManyBelow f n
