@@ -162,17 +162,17 @@ module _ (m : Layout) (size : Sized m) where
   pub grown : TreeOf (near m) rootAt (depth m) (parentSide m) (parentOf m)
   grown = record { roots = λ t h. roots-are t; depths = λ t h. depths-are t; sides = sides-are; parents = parents-are }
 
-  joined-back : (t d : ℕ) → Joined (near m) t d → Joined (near m) d t
+  pub joined-back : (t d : ℕ) → Joined (near m) t d → Joined (near m) d t
   joined-back t d j = (j .0, turned (near m) (near-both m size) (j .1))
 
   -- tables of one root are joined
-  one-group : (t d : ℕ) → rootAt t ≡ rootAt d → Joined (near m) t d
+  pub one-group : (t d : ℕ) → rootAt t ≡ rootAt d → Joined (near m) t d
   one-group t d e =
       let a = roots-are t .joined in let b = roots-are d .joined in
       (a .0 + b .0, append (near m) t (rootAt t) (a .0) (turned (near m) (near-both m size) (a .1)) (subst (λ r. Chain (near m) r d (b .0)) (sym e) (b .1)))
 
   -- and two such are there
-  both-there : (t d : ℕ) → (t ≡ d → ⊥) → Joined (near m) t d → present m d ≡ true
+  pub both-there : (t d : ℕ) → (t ≡ d → ⊥) → Joined (near m) t d → present m d ≡ true
   both-there t d ne j = elim (cases-bool (present m d)) [ inl y ↦ y | inr n ↦ absurd (ne (alone d t n j)) ]
 
   group-by : (t d r q : ℕ) → rootOf m t ≡ Some r → rootOf m d ≡ Some q → oneGroup (rootOf m t) (rootOf m d) ≡ eqb r q
@@ -181,7 +181,7 @@ module _ (m : Layout) (size : Sized m) where
   root-number : (t r : ℕ) → rootOf m t ≡ Some r → rootAt t ≡ r
   root-number t r e = ap (λ o. orSelf o t) e
 
-  way-there : (t d : ℕ) → t ≡ d → treeWay m t d ≡ None
+  pub way-there : (t d : ℕ) → t ≡ d → treeWay m t d ≡ None
   unfolding treeWay
   way-there t d e = over-there (rootOf m) (parentSide m) (parentOf m) t d e
 
@@ -193,7 +193,7 @@ module _ (m : Layout) (size : Sized m) where
   unfolding treeWay
   way-on t d ne e = over-on (rootOf m) (parentSide m) (parentOf m) t d _ ne e refl
 
-  way-is : (d t : ℕ) → (t ≡ d → ⊥) → rootAt t ≡ rootAt d → treeWay m t d ≡ noted (towards (parentSide m) t (childOn (parentOf m) 255 t d))
+  pub way-is : (d t : ℕ) → (t ≡ d → ⊥) → rootAt t ≡ rootAt d → treeWay m t d ≡ noted (towards (parentSide m) t (childOn (parentOf m) 255 t d))
   way-is d t ne e =
       let j = one-group t d e in
       let rd = root-present d (both-there t d ne j) in
@@ -206,10 +206,10 @@ module _ (m : Layout) (size : Sized m) where
   group-none t d (Some r) None e f h = refl
   group-none t d (Some r) (Some q) e f h = ne-eqb r q (λ is. h (one-group t d (root-number t r e ∙ is ∙ sym (root-number d q f))))
 
-  no-way : (t d : ℕ) → (Joined (near m) t d → ⊥) → treeWay m t d ≡ None
+  pub no-way : (t d : ℕ) → (Joined (near m) t d → ⊥) → treeWay m t d ≡ None
   no-way t d h = way-apart t d (λ e. h (0, subst (λ x. Chain (near m) t x 0) e stay)) (group-none t d (rootOf m t) (rootOf m d) refl refl h)
 
-  keys-are : (n : ℕ) → treeKey m n ≡ keyOver (near m) (depth m) (parentSide m) n
+  pub keys-are : (n : ℕ) → treeKey m n ≡ keyOver (near m) (depth m) (parentSide m) n
   unfolding treeKey
   keys-are n = refl
 
@@ -250,11 +250,29 @@ module _ (m : Layout) (size : Sized m) where
     course : Course m t d
     course = course-by (trip .0) (trip .1)
 
-  pub leads : Leads m
-  leads = record { joined = course; parted = no-way; there = λ d. way-there d d refl }
-
   absent-by : (t : ℕ) → (present m t ≡ true → ⊥) → present m t ≡ false
   absent-by t h = elim (cases-bool (present m t)) [ inl y ↦ absurd (h y) | inr n ↦ n ]
+
+  no-group : (o : Option ℕ) → oneGroup o None ≡ false
+  no-group None = refl
+  no-group (Some r) = refl
+
+  none-from : (t d : ℕ) → (present m t ≡ true → ⊥) → treeWay m t d ≡ None
+  none-from t d h =
+      elim (cases-eq t d) [
+        | inl e ↦ way-there t d e
+        | inr ne ↦ way-apart t d ne (ap (λ o. oneGroup o (rootOf m d)) (root-absent t (absent-by t h)))
+      ]
+
+  none-to : (t d : ℕ) → (present m d ≡ true → ⊥) → treeWay m t d ≡ None
+  none-to t d h =
+      elim (cases-eq t d) [
+        | inl e ↦ way-there t d e
+        | inr ne ↦ way-apart t d ne (ap (oneGroup (rootOf m t)) (root-absent d (absent-by d h)) ∙ no-group (rootOf m t))
+      ]
+
+  pub leads : Leads m
+  leads = record { joined = course; parted = no-way; there = λ d. way-there d d refl; none-from = none-from; none-to = none-to }
 
   pub meaning : Meaning m
   meaning = record { roots = root-present; depths = depth-some; no-root = λ t h. root-absent t (absent-by t h); no-depth = λ t h. depth-absent t (absent-by t h) }

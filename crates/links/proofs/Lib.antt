@@ -8,5 +8,7 @@ pub mod Parents
 pub mod Ascents
 pub mod Ranks
 pub mod Trips
+pub mod Meanings
 pub mod Turns
 pub mod Grown
+pub mod Told

@@ -31,11 +31,14 @@ pub record Course (m : Layout) (t d : ℕ) : Type 0 where
   pub ends : table len ≡ d
   pub not-sooner : (k : ℕ) → 0 < k → k < len → table k ≡ d → ⊥
 
--- between tables that open links join the ways lead there, and between others there is none
+-- between tables that open links join the ways lead there; there is no way at the destination, to another
+-- group, or from or to a closed or missing table
 pub record Leads (m : Layout) : Type 0 where
   pub joined : (t d : ℕ) → (t ≡ d → ⊥) → Joined (near m) t d → Course m t d
   pub parted : (t d : ℕ) → (Joined (near m) t d → ⊥) → treeWay m t d ≡ None
   pub there : (d : ℕ) → treeWay m d d ≡ None
+  pub none-from : (t d : ℕ) → (present m t ≡ true → ⊥) → treeWay m t d ≡ None
+  pub none-to : (t d : ℕ) → (present m d ≡ true → ⊥) → treeWay m t d ≡ None
 
 -- roots are the lowest tables of groups, depths the fewest links from there, and what is closed or
 -- missing has neither

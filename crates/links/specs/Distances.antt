@@ -9,6 +9,7 @@ use Rattle.std.specs.declared.option.Option.the-variants.{Some, None}
 use Rattle.map.specs.declared.side.Side.{Side}
 use Rattle.map.specs.declared.side.Side.the-variants.{North, East, South, West}
 
+-- t is in the list
 unfoldable pub has : ℕ → List ℕ → Bool
 has t [] = false
 has t (x ∷ xs) = eqb t x || has t xs

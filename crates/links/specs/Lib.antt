@@ -4,3 +4,4 @@ pub mod Distances
 pub mod Trees
 pub mod Ways
 pub mod Courses
+pub mod Words

@@ -6,10 +6,6 @@ use Rattle.std.specs.declared.option.Option.the-variants.{Some, None}
 use Rattle.map.specs.declared.side.Side.{Side}
 use Rattle.map.specs.Layouts.{Layout, onMap, besideIn, tableClosed, linkOpen}
 
--- what is over the link on each side of each table
-abbrev pub Links : Type 0
-Links = ℕ → Side → Option ℕ
-
 -- the neighbour of t on side s, where the link to it is open
 unfoldable pub near : Layout → ℕ → Side → Option ℕ
 near m t s = cond (linkOpen m t s) (besideIn m t s) None

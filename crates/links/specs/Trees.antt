@@ -25,6 +25,7 @@ lowest links t = firstOf (λ r. isSome (distance links r t)) 256 0
 unfoldable pub rootOf : Layout → ℕ → Option ℕ
 rootOf m t = cond (present m t) (lowest (near m) t) None
 
+-- the links from that root
 abbrev pub depthUnder : Layout → ℕ → Option ℕ → Option ℕ
 depthUnder m t None = None
 depthUnder m t (Some r) = distance (near m) r t
@@ -33,6 +34,7 @@ depthUnder m t (Some r) = distance (near m) r t
 unfoldable pub depthOf : Layout → ℕ → Option ℕ
 depthOf m t = depthUnder m t (rootOf m t)
 
+-- the number, or 0 where there is none
 abbrev pub orZero : Option ℕ → ℕ
 orZero None = 0
 orZero (Some n) = n
@@ -46,6 +48,10 @@ abbrev pub nearer : (ℕ → ℕ) → ℕ → Option ℕ → Bool
 nearer deep t None = false
 nearer deep t (Some u) = eqb (deep u + 1) (deep t)
 
+-- the neighbour over the link on that side is nearer to the root
+abbrev pub leadsUp : (ℕ → Side → Option ℕ) → (ℕ → ℕ) → ℕ → Side → Bool
+leadsUp links deep t s = nearer deep t (links t s)
+
 -- the first of the sides that passes the test
 abbrev pub firstSide : (Side → Bool) → List Side → Option Side
 firstSide test [] = None
@@ -53,15 +59,17 @@ firstSide test (s ∷ ss) = cond (test s) (Some s) (firstSide test ss)
 
 -- the first side, in side order, with a neighbour over an open link whose depth is one less
 unfoldable pub upSide : (ℕ → Side → Option ℕ) → (ℕ → ℕ) → ℕ → Option Side
-upSide links deep t = firstSide (λ s. nearer deep t (links t s)) (North ∷ East ∷ South ∷ West ∷ [])
+upSide links deep t = firstSide (leadsUp links deep t) (North ∷ East ∷ South ∷ West ∷ [])
 
+-- the table over the link on that side
 abbrev pub over : (ℕ → Side → Option ℕ) → ℕ → Option Side → Option ℕ
 over links t None = None
 over links t (Some s) = links t s
 
--- the side of the parent, and the parent: a root has none
+-- the side of the parent: a root has none
 unfoldable pub parentSide : Layout → ℕ → Option Side
 parentSide m t = upSide (near m) (depth m) t
 
+-- the parent
 unfoldable pub parentOf : Layout → ℕ → Option ℕ
 parentOf m t = over (near m) t (parentSide m t)

@@ -21,6 +21,7 @@ unfoldable pub childOn : (ℕ → Option ℕ) → ℕ → ℕ → ℕ → Option
 childOn parent zero t x = None
 childOn parent (suc n) t x = climb (childOn parent n t) t x (parent x)
 
+-- the side that leads back
 abbrev pub reversed : Option Side → Option Side
 reversed None = None
 reversed (Some s) = Some (opposite s)
@@ -36,6 +37,7 @@ oneGroup None o = false
 oneGroup (Some a) None = false
 oneGroup (Some a) (Some b) = eqb a b
 
+-- a way on that side, with the note 0
 abbrev pub noted : Option Side → Option (Side × ℕ)
 noted None = None
 noted (Some s) = Some (s, 0)
@@ -50,9 +52,11 @@ wayOver root side parent t d =
 unfoldable pub treeWay : Layout → ℕ → ℕ → Option (Side × ℕ)
 treeWay m t d = wayOver (rootOf m) (parentSide m) (parentOf m) t d
 
+-- a key of two numbers
 abbrev pub pair : ℕ → ℕ → Pair ℕ ℕ
 pair a b = record { first = a; second = b }
 
+-- there is a side, and it is s
 abbrev pub isSide : Option Side → Side → Bool
 isSide None s = false
 isSide (Some r) s = eqb (sideNumber r) (sideNumber s)

@@ -17,9 +17,11 @@ use Rattle.tree.specs.declared.tree.Tree.{Tree}
 abbrev pub Filled : {X : Type 0} → (ℕ → X) → X → List X → ℕ → Type 0
 Filled f d xs i = (length xs ≡ 256) × ((k : ℕ) → k < i → getD xs k d ≡ f k)
 
+-- a row of numbers as a function of the table
 abbrev pub numberAt : List ℕ → ℕ → ℕ
 numberAt xs t = getD xs t 0
 
+-- the rows of a tree as functions of the table
 abbrev pub rootsOf : Tree → ℕ → Option ℕ
 rootsOf w t = getD (w .roots) t None
 
@@ -39,9 +41,10 @@ pub record Holds (m : Layout) (w : Tree) : Type 0 where
   pub sides : (t : ℕ) → sidesOf w t ≡ parentSide m t
   pub parents : (t : ℕ) → parentsOf w t ≡ parentOf m t
 
+-- the way over what the tree holds
 abbrev pub wayBy : Tree → ℕ → ℕ → Option (Side × ℕ)
 wayBy w t d = wayOver (rootsOf w) (sidesOf w) (parentsOf w) t d
 
--- the table on a side of another is the one on the largest floor
+-- the keys over what the tree holds: it has no map, so that neighbours are those on the largest floor
 abbrev pub keyBy : Tree → ℕ → Pair ℕ ℕ
 keyBy w n = keyOver (beside 16 16) (depthsOf w) (sidesOf w) n

@@ -13,9 +13,11 @@ use Rattle.links.specs.Links.{near, present}
 use Rattle.links.specs.Groups.{Chain, RootOf}
 use Rattle.tree.specs.declared.growth.Growth.{Growth}
 
+-- the root of a table that was reached
 abbrev pub rootIn : Growth → ℕ → Option ℕ
 rootIn g t = getD (g .roots) t None
 
+-- its depth
 abbrev pub depthIn : Growth → ℕ → ℕ
 depthIn g t = getD (g .depths) t 0
 

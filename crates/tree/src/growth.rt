@@ -23,6 +23,7 @@ pub struct Growth {
 }
 
 impl Growth {
+    // The table joins at the end of the queue.
     fn reach(&mut self, table: u8, root: u8, depth: u8)
         requires { ⌜ now self .count < 256 ⌝ }
         ensures { λ _. ⌜ now (self .exit) ≡ reached (now (self .entry)) table root depth ⌝ }
@@ -51,6 +52,7 @@ impl Growth {
         }
     }
 
+    // Reaches the neighbours of the table at this place of the queue.
     fn look_around(&mut self, map: &Map, root: u8, place: usize)
         requires spreading { ⌜ Spreading (layout (now map)) root place (now self) ⌝ }
         requires within { ⌜ place < now self .count ⌝ }

@@ -5,6 +5,7 @@ ghost use Rattle.map.specs.Floors.{beside};
 ghost use Rattle.map.specs.Layouts.{layout};
 ghost use Rattle.links.specs.Courses.{Meaning, Leads};
 ghost use Rattle.links.specs.Ways.{childOn, reversed, towards, oneGroup, treeWay, treeKey, isSide, keyAt};
+ghost use Rattle.links.specs.Words.{WaysMeant, KeysMeant};
 ghost use Rattle.tree.specs.Finders.{Holds, rootsOf, depthsOf, sidesOf, parentsOf, wayBy, keyBy};
 use crate::growth::grow;
 use crate::upward::parents_of;
@@ -16,6 +17,12 @@ use orders::key::BySize;
 use orders::key::Pair;
 use orders::ranker::Ranker;
 use ways::finder::WayFinder;
+
+// The key of a segment that joins no table with its parent.
+const OFF_TREE: Pair<u16, u16> = Pair {
+    first: 2,
+    second: 0,
+};
 
 /// The trees of all groups of a map: of each table its root, its depth and its parent.
 #[derive(Clone, Copy)]
@@ -32,6 +39,8 @@ impl Tree {
         ensures ways { λ r. ⌜ ((t d : ℕ) → wayBy r t d ≡ treeWay (layout (now (map .entry))) t d) ⌝ }
         ensures keys { λ r. ⌜ ((n : ℕ) → keyBy r n ≡ treeKey (layout (now (map .entry))) n) ⌝ }
         ensures meaning { λ _. ⌜ Meaning (layout (now (map .entry))) ⌝ }
+        ensures meant_ways { λ _. ⌜ WaysMeant (layout (now (map .entry))) ⌝ }
+        ensures meant_keys { λ _. ⌜ KeysMeant (layout (now (map .entry))) ⌝ }
         ensures leads { λ _. ⌜ Leads (layout (now (map .entry))) ⌝ }
     {
         let growth = grow(map);
@@ -78,6 +87,7 @@ impl Tree {
         }
     }
 
+    // Whether both tables are in a group, and it is one.
     fn one_group(&self, table: u8, destination: u8) -> bool
         ensures { λ r. ⌜ r ≡ oneGroup (rootsOf (now (self .entry)) table) (rootsOf (now (self .entry)) destination) ⌝ }
     {
@@ -87,6 +97,7 @@ impl Tree {
         }
     }
 
+    // The key of the segment that leaves the table on that side.
     fn key_at(&self, table: u8, side: Side) -> Pair<u16, u16>
         ensures { λ r. ⌜ r ≡ keyAt (beside 16 16) (depthsOf (now (self .entry))) (sidesOf (now (self .entry))) table side ⌝ }
     {
@@ -97,10 +108,7 @@ impl Tree {
             };
         }
         let Some(other) = beside(table, side) else {
-            return Pair {
-                first: 2,
-                second: 0,
-            };
+            return OFF_TREE;
         };
         if is_side(self.sides[other as usize], side.opposite()) {
             Pair {
@@ -108,10 +116,7 @@ impl Tree {
                 second: self.depths[other as usize] as u16,
             }
         } else {
-            Pair {
-                first: 2,
-                second: 0,
-            }
+            OFF_TREE
         }
     }
 }
@@ -181,10 +186,7 @@ pub impl Ranker for Tree as TreeKeys {
 
     fn key(&self, segment: u16) -> Pair<u16, u16> {
         if segment >= 1024 {
-            return Pair {
-                first: 2,
-                second: 0,
-            };
+            return OFF_TREE;
         }
         self.key_at((segment / 4) as u8, Side::of_segment(segment))
     }

@@ -4,14 +4,15 @@ ghost use lib.ListN.{getD};
 ghost use Rattle.std.specs.declared.option.Option.the-variants.{None};
 ghost use Rattle.map.specs.Layouts.{layout};
 ghost use Rattle.links.specs.Links.{near};
-ghost use Rattle.links.specs.Trees.{nearer, firstSide, upSide, over};
+ghost use Rattle.links.specs.Trees.{leadsUp, firstSide, upSide, over};
 ghost use Rattle.tree.specs.Finders.{numberAt, Filled};
 use crate::near::near;
 use map::map::Map;
 use map::side::Side;
 
+// Whether the neighbour over the link on that side is nearer to the root.
 fn is_nearer(map: &Map, depths: &[u8; 256], table: u8, side: Side) -> bool
-    ensures { λ r. ⌜ r ≡ nearer (numberAt (now (depths .entry))) table (near (layout (now (map .entry))) table side) ⌝ }
+    ensures { λ r. ⌜ r ≡ leadsUp (near (layout (now (map .entry)))) (numberAt (now (depths .entry))) table side ⌝ }
 {
     match near(map, table, side) {
         None => false,
@@ -20,7 +21,7 @@ fn is_nearer(map: &Map, depths: &[u8; 256], table: u8, side: Side) -> bool
 }
 
 fn first_nearer(map: &Map, depths: &[u8; 256], table: u8, sides: &[Side]) -> Option<Side>
-    ensures { λ r. ⌜ r ≡ firstSide (λ s. nearer (numberAt (now (depths .entry))) table (near (layout (now (map .entry))) table s)) (now (sides .entry)) ⌝ }
+    ensures { λ r. ⌜ r ≡ firstSide (leadsUp (near (layout (now (map .entry)))) (numberAt (now (depths .entry))) table) (now (sides .entry)) ⌝ }
 {
     for side in sides {
         if is_nearer(map, depths, table, *side) {
@@ -30,6 +31,7 @@ fn first_nearer(map: &Map, depths: &[u8; 256], table: u8, sides: &[Side]) -> Opt
     None
 }
 
+// The side of the table's parent.
 fn up_side(map: &Map, depths: &[u8; 256], table: u8) -> Option<Side>
     ensures { λ r. ⌜ r ≡ upSide (near (layout (now (map .entry)))) (numberAt (now (depths .entry))) table ⌝ }
 {

@@ -1,6 +1,7 @@
 use Rattle.map.specs.Layouts.{layout}
 use Rattle.links.proofs.Nearby.{map-sized}
 use Rattle.links.proofs.Grown.{meaning, leads}
+use Rattle.links.proofs.Told.{ways-meant, keys-meant}
 use Rattle.tree.specs.declared.tree.Tree.{Tree}
 use Rattle.tree.specs.Finders.{Holds}
 use Rattle.tree.proofs.Held.{sides-held, parents-held, ways-held, keys-held}
@@ -21,4 +22,4 @@ returns c =
       sides = sides-held m size (g .depths) (c .sides-of-sides .result) (c .parents-of-parents .result) depths sides;
       parents = parents-held m size (g .depths) (c .sides-of-sides .result) (c .parents-of-parents .result) depths sides parents;
     } in
-    record { holds = held; ways = ways-held m size w held; keys = keys-held m size w held; meaning = meaning m size; leads = leads m size }
+    record { holds = held; ways = ways-held m size w held; keys = keys-held m size w held; meaning = meaning m size; meant-ways = ways-meant m size; meant-keys = keys-meant m size; leads = leads m size }
