@@ -24,6 +24,7 @@ use Rattle.trays.specs.declared.event.Event.the-variants.{Refused, Entered, Adv
 use Rattle.trays.specs.Refusals.{refusalNumber, refusalSegments}
 use Rattle.trays.specs.Logs.{Log}
 use Rattle.trays.specs.Logs.Log.{start, _then_}
+use Rattle.planfile.specs.Plans.{wayIn, keyIn}
 use Rattle.examples.specs.Turning.{turningWay, turningKey}
 
 abbrev pub withStops : Layout → List ℕ → Layout
@@ -37,15 +38,22 @@ square = withStops (bareMap 2 2) (0 ∷ 1 ∷ 16 ∷ 17 ∷ [])
 abbrev pub squareClosed : Layout
 squareClosed = after square (closeSegment square 1)
 
--- 2 x 1 with segment 1 closed, and two stops or one
+-- 2 x 1 with these stops, and with segment 1 closed
+abbrev pub line : List ℕ → Layout
+line stops = withStops (bareMap 2 1) stops
+
 abbrev pub lineClosed : List ℕ → Layout
-lineClosed stops = let m = withStops (bareMap 2 1) stops in after m (closeSegment m 1)
+lineClosed stops = after (line stops) (closeSegment (line stops) 1)
 
 abbrev pub rowFirst : Layout → Routing
 rowFirst m = record { first = λ o d. 0; way = λ t d n. rowFirstWay t d; map = m; rises = byKey pairBefore rowFirstKey }
 
 abbrev pub turning : Layout → Routing
 turning m = record { first = λ o d. 0; way = λ t d n. turningWay t; map = m; rises = byKey ltb turningKey }
+
+-- the plan in a file
+abbrev pub written : List ℕ → Layout → Routing
+written file m = record { first = λ o d. 0; way = λ t d n. wayIn file t d; map = m; rises = byKey ltb (keyIn file) }
 
 -- What the check answers: pairs, segments, longest; or the refusal's number, origin, destination, step, held, wanted.
 abbrev pub checked : Result Pass Refusal → List ℕ

@@ -2,8 +2,9 @@
 use mathlib.Core.Path.{_≡_}
 use mathlib.Core.List.{List, [], _∷_, _++_}
 use Prim.Native.Nat.{ℕ}
-use lib.ListN.{set}
-use Rattle.std.specs.declared.option.Option.the-variants.{Some}
+use lib.ListN.{length, take, drop, replicate}
+use Rattle.std.specs.declared.option.Option.{Option}
+use Rattle.std.specs.declared.option.Option.the-variants.{Some, None}
 use Rattle.ways.specs.RowFirsts.{rowFirstWay}
 use Rattle.links.specs.Ways.{treeKey}
 use Rattle.check.specs.Plans.{planCheck}
@@ -15,10 +16,23 @@ use Rattle.trays.specs.Runs.{history}
 use Rattle.detour.specs.Vias.{noVias, addVia}
 use Rattle.detour.specs.Vias as Vias
 use Rattle.detour.specs.Detours.{detourFirst, detourWay}
+use Rattle.planfile.specs.declared.refusal.Refusal.{Refusal}
+use Rattle.planfile.specs.Refusals.{refusalNumber}
+use Rattle.planfile.specs.Outcomes.{readOutcome}
+use Rattle.planwriter.specs.Files.{fileOf, sourceOf}
 use Rattle.promise.specs.Floors.{siteFor}
 use Rattle.promise.specs.Trees.{treeRouting}
 use Rattle.routes.specs.Routings.{Routing}
-use Rattle.examples.specs.Stores.{square, squareClosed, lineClosed, rowFirst, turning, checked, allTold, firstSteps, parts}
+use Rattle.examples.specs.Stores.{square, squareClosed, line, lineClosed, rowFirst, written, turning, checked, allTold, firstSteps, parts}
+
+-- the file for 2 x 1 with stops 0 and 1, row-first ways (0 east, 1 west) and all keys 0
+abbrev pub lineFile : List ℕ
+lineFile = fileOf (sourceOf (line (0 ∷ 1 ∷ [])) (λ o d. 0) (λ t d n. rowFirstWay t d) (replicate 1024 0))
+
+-- no number where nothing is refused
+abbrev pub refusals : Option Refusal → List ℕ
+refusals None = []
+refusals (Some r) = refusalNumber r ∷ []
 
 -- what is given, and what must be
 pub record Example : Type 0 where
@@ -65,6 +79,11 @@ examples =
     ∷ gives (checked (planCheck (treeRouting (lineClosed (0 ∷ 1 ∷ []))))) (13 ∷ 0 ∷ 1 ∷ 1 ∷ 65535 ∷ 65535 ∷ [])
     -- with one stop: pass with nothing to check
     ∷ gives (checked (planCheck (treeRouting (lineClosed (0 ∷ []))))) (0 ∷ 0 ∷ 0 ∷ [])
+    -- the head block for 2 x 1 with stops 0 and 1 ends in the word 0xFCFDFDFF
+    ∷ gives (take 4 (drop 508 lineFile)) (0xFC ∷ 0xFD ∷ 0xFD ∷ 0xFF ∷ [])
+    -- the file with table 0 east, 1 west and all keys 0 has 5,632 bytes, is read, and passes
+    ∷ gives (length lineFile ∷ refusals (readOutcome lineFile)) (5632 ∷ [])
+    ∷ gives (checked (planCheck (written lineFile (line (0 ∷ 1 ∷ []))))) (2 ∷ 2 ∷ 1 ∷ [])
     ∷ []
 
 -- each example gives what it must

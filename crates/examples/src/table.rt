@@ -8,5 +8,5 @@ pub fn example_count() -> usize
     ensures counts { λ r. ⌜ r ≡ length examples ⌝ }
     ensures hold { λ _. ⌜ AllHold examples ⌝ }
 {
-    15
+    18
 }

@@ -1,0 +1,2 @@
+// Blocks of bytes, and the sum of their words.
+pub mod sum;
