@@ -1,8 +1,8 @@
 -- A file with one byte changed is refused by the sum of that byte's block.
-use mathlib.Core.Path.{_≡_, refl, sym, ap, _∙_}
-use mathlib.Core.Bool.{Bool, true, false, cond}
+use mathlib.Core.Path.{_≡_, sym, ap, _∙_}
+use mathlib.Core.Bool.{true, cond}
 use mathlib.Core.List.{List}
-use mathlib.Core.Logic.{_⊎_, inl, inr, ⊎-elim}
+use mathlib.Core.Logic.{_⊎_, ⊎-elim}
 use Prim.Native.Nat.{ℕ, zero, suc, min, _+_, _-_, _*_, _/_, _%_, _<_, _≤_}
 use native.Mathlib.Omega.{arith}
 use lib.Dec.{eqb, leb}
@@ -10,16 +10,15 @@ use lib.ListN.{length, getD, take, drop}
 use Rattle.std.proofs.shelf.Bits.{div-mul-add, div-add-mod'}
 use Rattle.std.proofs.shelf.Lists.{ext-getD, length-take, length-take-le, length-drop, getD-past}
 use Rattle.std.proofs.shelf.Tests.{cases-eq, cases-lt}
-use Rattle.std.specs.declared.option.Option.{Option}
 use Rattle.std.specs.declared.option.Option.the-variants.{Some, None}
 use Rattle.blocks.specs.Changes.{AllBytes, OnlyAt}
 use Rattle.planfile.specs.declared.block.Head.{Head}
 use Rattle.planfile.specs.declared.block.Content.{Content}
 use Rattle.planfile.specs.declared.block.Content.the-variants.{Stops, Ways, Keys}
 use Rattle.planfile.specs.declared.refusal.Refusal.{Refusal}
-use Rattle.planfile.specs.declared.refusal.Refusal.the-variants.{BadLength, BadSum}
+use Rattle.planfile.specs.declared.refusal.Refusal.the-variants.{BadSum}
 use Rattle.planfile.specs.Outcomes.{blockRefusal, fileHead, blockAt, contentAt, refusalAt, firstOf, firstFrom, unlessLong, lengthFits, readOutcome}
-use Rattle.planfile.specs.Promises.{PlanFile, OneByteRefused, OneByteNamed}
+use Rattle.planfile.specs.Promises.{PlanFile}
 use Rattle.planfile.proofs.Spots.{at-block}
 use Rattle.planfile.proofs.Verdicts.{from-more, from-bad, others-decide}
 use Rattle.planfile.proofs.Judgements.{not-refused, few-stops, long-fits}

@@ -1,6 +1,6 @@
 -- What a file of the layout holds.
-use mathlib.Core.Path.{_≡_, refl, sym, ap, subst, _∙_}
-use mathlib.Core.Bool.{Bool, true, false, cond, not, _&&_, _||_}
+use mathlib.Core.Path.{_≡_, refl, sym, ap, _∙_}
+use mathlib.Core.Bool.{true, false, cond, not, _&&_, _||_}
 use mathlib.Core.List.{List}
 use mathlib.Core.Logic.{_⊎_, inl, inr, ⊎-elim}
 use Prim.Native.Nat.{ℕ, zero, suc, _+_, _-_, _*_, _/_, _%_, _<_, _≤_}
@@ -8,20 +8,18 @@ use native.Mathlib.Nat.{zero-add}
 use native.Mathlib.Omega.{arith}
 use lib.Dec.{eqb, leb, ltb}
 use lib.ListN.{length, getD, drop}
-use Rattle.std.proofs.shelf.Tests.{eq-eqb, eqb-true, ne-eqb, lt-ltb, le-ltb, ltb-true, le-leb, lt-leb, leb-true, and-parts, or-cases, both-ways, not-true, eqb-false, cond-true, cond-false, cases-bool, cases-eq, cases-lt}
+use Rattle.std.proofs.shelf.Tests.{eq-eqb, eqb-true, ne-eqb, lt-ltb, le-ltb, ltb-true, le-leb, lt-leb, leb-true, and-parts, or-cases, both-ways, not-true, eqb-false, cond-true, cond-false, cases-eq, cases-lt}
 use Rattle.std.proofs.shelf.Lists.{length-take, length-take-le, length-drop, getD-past}
-use Rattle.std.specs.Options.{isSome}
 use Rattle.blocks.specs.Words.{addsUp}
-use Rattle.blocks.specs.Changes.{AllBytes, OnlyAt}
+use Rattle.blocks.specs.Changes.{AllBytes}
 use Rattle.blocks.proofs.Sums.{one-byte}
-use Rattle.map.specs.Floors.{onFloor, headOf}
+use Rattle.map.specs.Floors.{onFloor}
 use Rattle.planfile.specs.declared.block.Head.{Head}
-use Rattle.planfile.specs.declared.block.Content.{Content}
-use Rattle.planfile.specs.declared.block.Content.the-variants.{Stops, Ways, Keys}
+use Rattle.planfile.specs.declared.block.Content.the-variants.{Ways, Keys}
 use Rattle.planfile.specs.Layouts.{inBody, sizeFits, stopFits, headByteFits, entryFits, wayByteFits, isThere, keyByteFits, byteFits, bodyFits}
 use Rattle.planfile.specs.Outcomes.{frontFits, judged, fileHead, blockAt, contentAt}
-use Rattle.planfile.specs.Plans.{stopAt, placeOf, halfOf, entryAt, entryWay, wayTo, wayIn, keyPlace, keyIn}
-use Rattle.planfile.specs.Promises.{GoodBlock, GoodAt, PlanFile, PlanHolds, OneByteRefused}
+use Rattle.planfile.specs.Plans.{stopAt, placeOf, entryAt, entryWay, wayTo, wayIn, keyPlace, keyIn}
+use Rattle.planfile.specs.Promises.{PlanFile, PlanHolds, OneByteRefused}
 use Rattle.planfile.proofs.Spots.{at-block, in-block}
 use Rattle.planfile.proofs.Searches.{seek-finds}
 use Rattle.planfile.proofs.Judgements.{few-stops}

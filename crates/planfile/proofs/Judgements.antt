@@ -7,20 +7,20 @@ use Prim.Native.Nat.{ℕ, zero, suc, _+_, _-_, _*_, _%_, _<_, _≤_}
 use native.Mathlib.Omega.{arith}
 use lib.Dec.{eqb, leb}
 use lib.ListN.{length, getD, drop}
-use Rattle.std.proofs.shelf.Tests.{eq-eqb, eqb-true, eqb-false, ne-eqb, le-leb, leb-true, and-from, both-ways, cases-bool, cases-eq, cases-lt}
+use Rattle.std.proofs.shelf.Tests.{eq-eqb, eqb-true, eqb-false, le-leb, leb-true, and-from, both-ways, cases-eq, cases-lt}
 use Rattle.std.specs.declared.option.Option.{Option}
 use Rattle.std.specs.declared.option.Option.the-variants.{Some, None}
-use Rattle.blocks.specs.Words.{wordSum, addsUp}
+use Rattle.blocks.specs.Words.{addsUp}
 use Rattle.planfile.specs.declared.block.Head.{Head}
 use Rattle.planfile.specs.declared.block.Content.{Content}
 use Rattle.planfile.specs.declared.refusal.Refusal.{Refusal}
 use Rattle.planfile.specs.declared.refusal.Refusal.the-variants.{BadLength, BadSum, BadFront, BadContent}
 use Rattle.planfile.specs.Layouts.{byteFits, bodyFits}
 use Rattle.planfile.specs.Outcomes.{frontFits, judged, blockRefusal, fileHead, blockAt, contentAt, refusalAt, firstOf, firstFrom, unlessLong, lengthFits, readOutcome}
-use Rattle.planfile.specs.Promises.{Front, GoodBlock, GoodAt, PlanFile, GoodBefore, BadByte, FirstFault}
+use Rattle.planfile.specs.Promises.{Front, GoodBlock, GoodAt, PlanFile, GoodBefore, FirstFault}
 use Rattle.planfile.proofs.Places.{each-of-all, all-of-each, one-fails}
 use Rattle.planfile.proofs.Spots.{in-block}
-use Rattle.planfile.proofs.Verdicts.{same-some, front-fits, front-of, judged-as, none-some, first-none, from-more, from-bad, from-none, each-good, others-decide}
+use Rattle.planfile.proofs.Verdicts.{same-some, front-fits, front-of, judged-as, none-some, first-none, from-more, from-none, each-good, others-decide}
 
 passed : (n : ℕ) (sum front body : Bool) → judged n sum front body ≡ None → (sum ≡ true) × (front ≡ true) × (body ≡ true)
 passed n false front body e = absurd (none-some _ (BadSum n) e refl)

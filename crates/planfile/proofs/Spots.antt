@@ -1,9 +1,9 @@
 -- Where the bytes of a block stand in the file.
-use mathlib.Core.Path.{_≡_, refl, sym, ap, _∙_}
+use mathlib.Core.Path.{_≡_, ap, _∙_}
 use mathlib.Core.List.{List}
 use Prim.Native.Nat.{ℕ, _+_, _-_, _*_, _<_, _≤_}
 use native.Mathlib.Omega.{arith}
-use lib.ListN.{length, getD, take, drop}
+use lib.ListN.{getD, take, drop}
 use Rattle.std.proofs.shelf.Lists.{getD-take, getD-drop}
 use Rattle.planfile.specs.Layouts.{inBody}
 use Rattle.planfile.specs.Outcomes.{blockAt}

@@ -1,22 +1,19 @@
 -- What is refused of a block, by its sum, its first four bytes and its body.
 use mathlib.Core.Path.{_≡_, refl, sym, ap, _∙_}
-use mathlib.Core.Bool.{Bool, true, false}
+use mathlib.Core.Bool.{Bool, true}
 use mathlib.Core.List.{List}
 use Prim.Native.Nat.{ℕ, zero, suc, _+_, _-_, _*_, _<_, _≤_}
 use native.Mathlib.Nat.{add-zero}
 use native.Mathlib.Omega.{arith}
 use lib.Dec.{eqb}
-use lib.ListN.{length, getD, drop}
+use lib.ListN.{length, getD}
 use Rattle.std.proofs.shelf.Tests.{eq-eqb, and-from, and-parts, eqb-true}
 use Rattle.std.specs.declared.option.Option.{Option}
 use Rattle.std.specs.declared.option.Option.the-variants.{Some, None}
-use Rattle.blocks.specs.Words.{wordSum, addsUp}
-use Rattle.planfile.specs.declared.block.Head.{Head}
 use Rattle.planfile.specs.declared.block.Content.{Content}
 use Rattle.planfile.specs.declared.refusal.Refusal.{Refusal}
-use Rattle.planfile.specs.declared.refusal.Refusal.the-variants.{BadLength, BadSum, BadFront, BadContent}
 use Rattle.planfile.specs.Promises.{Front}
-use Rattle.planfile.specs.Outcomes.{kindOf, frontFits, judged, blockRefusal, refusalAt, firstOf, firstFrom, unlessLong, lengthFits, readOutcome}
+use Rattle.planfile.specs.Outcomes.{frontFits, judged, refusalAt, firstOf, firstFrom, unlessLong, lengthFits, readOutcome}
 
 pub front-fits : (number : ℕ) (content : Content) (block : List ℕ) → Front number content block → frontFits number content block ≡ true
 front-fits number content block f =

@@ -3,7 +3,7 @@ use mathlib.Core.Bool.{Bool, true, cond, not, _&&_, _||_}
 use mathlib.Core.List.{List}
 use Prim.Native.Nat.{ℕ, zero, suc, _+_, _-_, _*_, _/_, _%_}
 use lib.Dec.{eqb, leb, ltb}
-use lib.ListN.{getD, drop}
+use lib.ListN.{getD}
 use Rattle.std.specs.Options.{isSome}
 use Rattle.map.specs.Floors.{onFloor, headOf}
 use Rattle.planfile.specs.declared.block.Head.{Head}

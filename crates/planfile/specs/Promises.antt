@@ -1,12 +1,12 @@
 -- What it is for a file to be of the layout, and what is told of one that is not.
 use mathlib.Core.Path.{_≡_}
-use mathlib.Core.Bool.{Bool, true, false}
+use mathlib.Core.Bool.{true, false}
 use mathlib.Core.List.{List}
 use mathlib.Core.Logic.{_⊎_}
 use Prim.Native.Nat.{ℕ, _+_, _*_, _/_, _<_, _≤_}
 use lib.ListN.{length, getD, drop}
 use Rattle.std.specs.Options.{isSome}
-use Rattle.std.specs.declared.option.Option.the-variants.{Some, None}
+use Rattle.std.specs.declared.option.Option.the-variants.{Some}
 use Rattle.map.specs.Floors.{onFloor, headOf}
 use Rattle.blocks.specs.Words.{wordSum}
 use Rattle.blocks.specs.Changes.{AllBytes, OnlyAt}

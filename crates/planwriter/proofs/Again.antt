@@ -1,5 +1,5 @@
 -- A plan is written again with its own keys.
-use mathlib.Core.Path.{_≡_, refl, sym, ap, subst, _∙_}
+use mathlib.Core.Path.{_≡_, refl, ap, subst, _∙_}
 use mathlib.Core.List.{List, _++_, map}
 use Prim.Native.Nat.{ℕ, _+_, _<_, _≤_}
 use native.Mathlib.Nat.{zero-add}
@@ -16,9 +16,8 @@ use Rattle.blocks.specs.Changes.{AllBytes}
 use Rattle.planfile.specs.declared.refusal.Refusal.{Refusal}
 use Rattle.planfile.specs.Plans.{wayIn, keyIn}
 use Rattle.planfile.specs.Promises.{PlanFile}
-use Rattle.planwriter.specs.Stops.{stopsOf}
 use Rattle.planwriter.specs.Files.{fileOf, sourceOf, writeOutcome}
-use Rattle.planwriter.specs.Promises.{SamePlan, WrittenAgain, keysIn, SameFloor}
+use Rattle.planwriter.specs.Promises.{WrittenAgain, keysIn, SameFloor}
 
 pub keys-are : (file keys : List ℕ) (s : ℕ) → length keys ≡ 1024 → 1024 ≤ s → ((k : ℕ) → k < s → getD keys k 0 ≡ keyIn file k) → keys ≡ keysIn file
 unfolding keysIn

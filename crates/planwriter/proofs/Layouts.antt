@@ -1,16 +1,16 @@
 -- A written file is of the layout.
 use mathlib.Core.Path.{_≡_, refl, sym, ap, subst, _∙_}
-use mathlib.Core.Bool.{Bool, true, false, cond, not, _&&_, _||_}
+use mathlib.Core.Bool.{Bool, true, false, cond}
 use mathlib.Core.List.{List, map}
-use mathlib.Core.Logic.{_⊎_, inl, inr, ⊎-elim}
-use Prim.Native.Nat.{ℕ, zero, suc, _+_, _-_, _*_, _/_, _%_, _<_, _≤_}
+use mathlib.Core.Logic.{_⊎_, ⊎-elim}
+use Prim.Native.Nat.{ℕ, zero, _+_, _-_, _*_, _/_, _%_, _<_, _≤_}
 use native.Mathlib.Omega.{arith}
 use lib.Dec.{eqb, leb, ltb}
-use lib.ListN.{length, getD, take, drop}
+use lib.ListN.{length, getD, drop}
 use Rattle.std.proofs.shelf.Bits.{div-mul-add, mod-mul-add}
 use Rattle.std.proofs.shelf.Counted.{length-map-counting}
 use Rattle.std.proofs.shelf.Lists.{getD-drop, getD-past}
-use Rattle.std.proofs.shelf.Tests.{cases-bool, cases-eq, cases-lt, eq-eqb, ne-eqb, lt-ltb, le-ltb, le-leb, lt-leb, cond-true, cond-false, and-from, or-left, or-right}
+use Rattle.std.proofs.shelf.Tests.{cases-bool, cases-eq, cases-lt, eq-eqb, lt-ltb, le-ltb, le-leb, cond-true, cond-false, and-from, or-left, or-right}
 use Rattle.std.specs.Iters.{counting}
 use Rattle.map.specs.Floors.{onFloor}
 use Rattle.blocks.specs.Words.{wordSum}
@@ -19,13 +19,12 @@ use Rattle.planfile.specs.declared.block.Head.{Head}
 use Rattle.planfile.specs.declared.block.Content.{Content}
 use Rattle.planfile.specs.declared.block.Content.the-variants.{Stops, Ways, Keys}
 use Rattle.planfile.specs.Layouts.{inBody, sizeFits, stopFits, headByteFits, entryFits, wayByteFits, isThere, keyByteFits, byteFits}
-use Rattle.planfile.specs.Outcomes.{blockAt, contentAt, fileHead}
-use Rattle.planfile.specs.Promises.{Front, GoodBlock, GoodAt, PlanFile}
-use Rattle.planfile.proofs.Contents.{at-entries}
+use Rattle.planfile.specs.Outcomes.{blockAt, contentAt}
+use Rattle.planfile.specs.Promises.{GoodBlock, PlanFile}
 use Rattle.planwriter.specs.Files.{Source, headByte, wayByte, keyHalf, keyByte, contentByte, blockByte, blockOf, contentOf, fileOf}
-use Rattle.planwriter.proofs.Pieces.{block-long, blocks-long}
+use Rattle.planwriter.proofs.Pieces.{blocks-long}
 use Rattle.planwriter.proofs.Sources.{Sound}
-use Rattle.planwriter.proofs.Spots.{block-byte, content-byte, blockNo, block-is, stop-byte, count-is, head-is, content-is}
+use Rattle.planwriter.proofs.Spots.{block-byte, content-byte, block-is, stop-byte, count-is, head-is, content-is}
 
 block-adds : (source : Source) (content : Content) (number : ℕ) → wordSum (blockOf source content number) ≡ 4294967295
 unfolding blockOf

@@ -4,11 +4,11 @@ use mathlib.Core.List.{List, [], _∷_, _++_}
 use Prim.Native.Nat.{ℕ, zero, suc, _+_, _-_, _*_, _<_, _≤_}
 use native.Mathlib.Omega.{arith}
 use borrow.Rule.Slice.PartMut.{putMid}
-use mathlib.Core.Logic.{_⊎_, inl, inr, ⊎-elim}
+use mathlib.Core.Logic.{_⊎_, ⊎-elim}
 use mathlib.Core.List.{map}
 use lib.ListN.{length, getD, set, take, drop}
 use Rattle.std.proofs.shelf.Counted.{fill-by-all, length-map-counting}
-use Rattle.std.proofs.shelf.Lists.{drop-drop, drop-all, getD-take, getD-set-same, getD-set-other, length-take-le, length-append, length-drop, take-append-drop, append-assoc, append-nil}
+use Rattle.std.proofs.shelf.Lists.{drop-drop, drop-all, getD-take, getD-set-same, getD-set-other, length-take-le, length-append, take-append-drop, append-assoc, append-nil}
 use Rattle.std.proofs.shelf.Parts.{take-putMid, drop-putMid}
 use Rattle.std.proofs.shelf.Tests.{cases-eq, eq-eqb, le-leb, cond-true}
 use Rattle.std.specs.Iters.{counting}

@@ -1,20 +1,19 @@
 -- Read again, a written file gives what was written.
-use mathlib.Core.Path.{_≡_, refl, sym, ap, _∙_}
-use mathlib.Core.Bool.{Bool, true, false, cond}
+use mathlib.Core.Path.{_≡_, sym, ap, _∙_}
+use mathlib.Core.Bool.{true, false, cond}
 use mathlib.Core.List.{List}
-use mathlib.Core.Logic.{_⊎_, inl, inr, ⊎-elim}
-use Prim.Native.Nat.{ℕ, _+_, _-_, _*_, _/_, _%_, _<_, _≤_}
+use mathlib.Core.Logic.{_⊎_, ⊎-elim}
+use Prim.Native.Nat.{ℕ, _+_, _-_, _*_, _/_, _%_, _<_}
 use native.Mathlib.Nat.{mod-eq-of-lt}
 use native.Mathlib.Omega.{arith}
 use lib.Dec.{eqb, leb, ltb}
 use lib.ListN.{length, getD}
 use Rattle.std.proofs.shelf.Bits.{div-mul-add, mod-mul-add, div-below}
 use Rattle.std.proofs.shelf.Tests.{cases-eq, eq-eqb, ne-eqb, lt-ltb, le-ltb, le-leb, lt-leb, cond-true, cond-false}
-use Rattle.planfile.specs.declared.block.Content.{Content}
 use Rattle.planfile.specs.declared.block.Content.the-variants.{Ways, Keys}
 use Rattle.planfile.specs.Plans.{halfOf, entryAt, entryWay, wayIn, keyPlace, keyIn}
 use Rattle.planfile.proofs.Contents.{way-to-stop}
-use Rattle.planwriter.specs.Files.{Source, wayByte, keyHalf, keyByte, contentByte, blockByte, contentOf, fileOf}
+use Rattle.planwriter.specs.Files.{Source, wayByte, keyHalf, keyByte, contentByte, contentOf, fileOf}
 use Rattle.planwriter.specs.Promises.{ReadBack}
 use Rattle.planwriter.proofs.Sources.{Sound}
 use Rattle.planwriter.proofs.Spots.{content-byte, byte-is, width-is, height-is, count-is, stop-is}

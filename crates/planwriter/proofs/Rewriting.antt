@@ -1,20 +1,17 @@
 -- A plan that was read and is written again gives its bytes again.
-use mathlib.Core.Path.{_≡_, refl, sym, ap, subst, _∙_}
-use mathlib.Core.Bool.{Bool, true, false, cond, not, _&&_, _||_}
-use mathlib.Core.List.{List, [], _∷_, _++_, map}
+use mathlib.Core.Path.{_≡_, refl, sym, ap, _∙_}
+use mathlib.Core.Bool.{Bool, true, false, cond, not, _&&_}
+use mathlib.Core.List.{List, _++_}
 use mathlib.Core.Logic.{_⊎_, inl, inr, ⊎-elim}
 use Prim.Native.Nat.{ℕ, zero, suc, _+_, _-_, _*_, _/_, _%_, _<_, _≤_}
-use native.Mathlib.Nat.{zero-add}
 use native.Mathlib.Omega.{arith}
 use lib.Dec.{eqb, leb, ltb}
 use lib.ListN.{length, getD, take, drop}
 use Rattle.std.proofs.shelf.Bits.{div-mul-add, mod-mul-add, div-add-mod'}
 use Rattle.std.proofs.shelf.Counted.{fill-by-all}
 use Rattle.std.proofs.shelf.Lists.{getD-take, getD-drop, getD-past, length-take, length-take-le, length-drop, drop-drop, drop-all, take-append-drop}
-use Rattle.std.proofs.shelf.Tests.{cases-bool, cases-eq, cases-lt, eq-eqb, eqb-true, ne-eqb, lt-ltb, le-ltb, le-leb, lt-leb, cond-true, cond-false, and-parts, and-from, not-from-false, both-ways}
-use Rattle.std.specs.Iters.{counting}
+use Rattle.std.proofs.shelf.Tests.{cases-eq, cases-lt, eq-eqb, eqb-true, ne-eqb, lt-ltb, le-ltb, le-leb, lt-leb, cond-true, cond-false, and-from, not-from-false, both-ways}
 use Rattle.std.specs.declared.option.Option.{Option}
-use Rattle.std.specs.declared.option.Option.the-variants.{Some, None}
 use Rattle.map.specs.declared.side.Side.{Side}
 use Rattle.map.specs.Floors.{onFloor}
 use Rattle.map.specs.Layouts.{Layout}
@@ -24,17 +21,17 @@ use Rattle.blocks.proofs.Sums.{closed-back}
 use Rattle.planfile.specs.declared.block.Head.{Head}
 use Rattle.planfile.specs.declared.block.Content.{Content}
 use Rattle.planfile.specs.declared.block.Content.the-variants.{Stops, Ways, Keys}
-use Rattle.planfile.specs.Layouts.{inBody, headByteFits, wayByteFits, isThere, keyByteFits, byteFits}
+use Rattle.planfile.specs.Layouts.{inBody, wayByteFits, isThere, keyByteFits, byteFits}
 use Rattle.planfile.specs.Outcomes.{kindOf, fileHead, blockAt, contentAt}
-use Rattle.planfile.specs.Plans.{stopAt, entryAt, entryWay, wayIn, keyPlace, keyIn}
-use Rattle.planfile.specs.Promises.{GoodBlock, PlanFile, PlanHolds}
+use Rattle.planfile.specs.Plans.{stopAt, entryAt, entryWay, keyPlace, keyIn}
+use Rattle.planfile.specs.Promises.{PlanFile, PlanHolds}
 use Rattle.planfile.proofs.Spots.{at-block, in-block}
 use Rattle.planfile.proofs.Contents.{content-ways, content-keys, few, holds, way-to-stop, block-bytes}
 use Rattle.planwriter.specs.Stops.{stopsOf}
-use Rattle.planwriter.specs.Files.{Source, entryNumber, entryFor, keyFor, headOf, sourceOf, headByte, wayByte, keyHalf, keyByte, contentByte, blockByte, blockOf, contentOf, blocksFrom, fileOf}
-use Rattle.planwriter.specs.Promises.{stopsIn, SamePlan}
-use Rattle.planwriter.proofs.Spots.{headWith, content-byte, stop-byte}
-use Rattle.planwriter.proofs.Readings.{pair-byte, key-byte}
+use Rattle.planwriter.specs.Files.{Source, entryNumber, entryFor, keyFor, headFor, sourceOf, headByte, wayByte, keyHalf, keyByte, contentByte, blockByte, blockOf, contentOf, blocksFrom, fileOf}
+use Rattle.planwriter.specs.Promises.{SamePlan}
+use Rattle.planwriter.proofs.Spots.{headWith, content-byte}
+use Rattle.planwriter.proofs.Readings.{key-byte}
 
 -- the part of a segment, and its place there
 row-is : (j r : ℕ) → r < 128 → (128 * j + r) / 128 ≡ j
@@ -71,7 +68,7 @@ module _ (layout : Layout) (first : ℕ → ℕ → ℕ) (way : ℕ → ℕ → 
   stop-same : (i : ℕ) → i < n → getD (stopsOf layout) i 0 ≡ stopAt file i
   stop-same i h = ap (λ l. getD l i 0) (same .stops) ∙ getD-take n (drop 8 file) i 0 h ∙ getD-drop 8 file i 0
 
-  head-same : headOf layout ≡ fileHead file
+  head-same : headFor layout ≡ fileHead file
   head-same =
       ap (λ w. headWith w (layout .height) (length (stopsOf layout))) (same .width) ∙ ap (λ h. headWith (getD file 4 0) h (length (stopsOf layout))) (same .height)
       ∙ ap (headWith (getD file 4 0) (getD file 5 0)) count-same
@@ -100,7 +97,7 @@ module _ (layout : Layout) (first : ℕ → ℕ → ℕ) (way : ℕ → ℕ → 
   is-zero k p low high e = sym (in-block file k p low (omega arith)) ∙ eqb-true _ 0 e
 
   -- the head
-  head-byte : (p : ℕ) → 4 ≤ p → p < 508 → headByte (headOf layout) (stopsOf layout) p ≡ getD file (512 * 0 + p) 0
+  head-byte : (p : ℕ) → 4 ≤ p → p < 508 → headByte (headFor layout) (stopsOf layout) p ≡ getD file (512 * 0 + p) 0
   head-byte p low high =
       let l = few file f in
       let c = count-same in
@@ -128,7 +125,7 @@ module _ (layout : Layout) (first : ℕ → ℕ → ℕ) (way : ℕ → ℕ → 
       (cases-lt p 5)
 
   -- an entry that is written again
-  entry-same : (i t : ℕ) → i < n → t < 256 → entryFor (headOf layout) first way (stopAt file i) t ≡ entryAt file i t
+  entry-same : (i t : ℕ) → i < n → t < 256 → entryFor (headFor layout) first way (stopAt file i) t ≡ entryAt file i t
   entry-same i t h l =
       ap (λ x. entryFor x first way (stopAt file i) t) head-same ∙ go _ refl
     where
@@ -140,7 +137,7 @@ module _ (layout : Layout) (first : ℕ → ℕ → ℕ) (way : ℕ → ℕ → 
           cond-false _ _ _ e
           ∙ sym (⊎-elim (λ a. a) (λ a. absurd (both-ways _ e (and-from _ _ (a .1) (not-from-false _ (ne-eqb _ _ (a .2)))))) (told .entries i t h l))
 
-  way-byte : (i p : ℕ) → i < n → 4 ≤ p → p < 508 → wayByte (entryFor (headOf layout) first way) (stopAt file i) p ≡ getD file (512 * (i + 1) + p) 0
+  way-byte : (i p : ℕ) → i < n → 4 ≤ p → p < 508 → wayByte (entryFor (headFor layout) first way) (stopAt file i) p ≡ getD file (512 * (i + 1) + p) 0
   way-byte i p h low high =
       let byte = getD file (512 * (i + 1) + p) 0 in
       let stop = stopAt file i in
@@ -163,21 +160,21 @@ module _ (layout : Layout) (first : ℕ → ℕ → ℕ) (way : ℕ → ℕ → 
       let hi = entry-same i (2 * q) h (omega arith) ∙ cond-true _ _ _ (eq-eqb (2 * q % 2) 0 even) ∙ ap (λ m. m / 16) (spot (2 * q) half) in
       let lo = entry-same i (2 * q + 1) h (omega arith) ∙ cond-false _ _ _ (ne-eqb ((2 * q + 1) % 2) 0 (λ e. omega arith)) ∙ ap (λ m. m % 16) (spot (2 * q + 1) half') in
       cond-true _ _ _ (lt-ltb p 136 d)
-      ∙ ap (λ m. m * 16 + entryFor (headOf layout) first way stop (2 * q + 1)) hi ∙ ap (λ m. byte / 16 * 16 + m) lo ∙ div-add-mod' byte 16)
+      ∙ ap (λ m. m * 16 + entryFor (headFor layout) first way stop (2 * q + 1)) hi ∙ ap (λ m. byte / 16 * 16 + m) lo ∙ div-add-mod' byte 16)
       (λ d. cond-false _ _ _ (le-ltb p 136 d)
       ∙ sym (eqb-true byte 0 (sym (cond-false _ _ _ (le-ltb p 5 a) ∙ cond-false _ _ _ (le-ltb p 8 b) ∙ cond-false _ _ _ (le-ltb p 136 d)) ∙ told)))
       (cases-lt p 136))
       (cases-lt p 8))
       (cases-lt p 5)
 
-  key-same : (s : ℕ) → s < 1024 → keyFor (headOf layout) keys s ≡ keyIn file s
+  key-same : (s : ℕ) → s < 1024 → keyFor (headFor layout) keys s ≡ keyIn file s
   key-same s h = ap (λ x. keyFor x keys s) head-same ∙ go _ refl
     where
       go : (b : Bool) → isThere (fileHead file) s ≡ b → keyFor (fileHead file) keys s ≡ keyIn file s
       go true e = cond-true _ _ _ e ∙ same .each-key s h
       go false e = cond-false _ _ _ e ∙ sym (told .keys s e)
 
-  key-byte-same : (j p : ℕ) → j < 8 → 4 ≤ p → p < 508 → keyByte (keyFor (headOf layout) keys) j p ≡ getD file (512 * (n + 1 + j) + p) 0
+  key-byte-same : (j p : ℕ) → j < 8 → 4 ≤ p → p < 508 → keyByte (keyFor (headFor layout) keys) j p ≡ getD file (512 * (n + 1 + j) + p) 0
   key-byte-same j p h low high =
       let byte = getD file (512 * (n + 1 + j) + p) 0 in
       let at = in-block file (n + 1 + j) p low (omega arith) in

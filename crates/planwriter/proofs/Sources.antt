@@ -1,13 +1,13 @@
 -- What a map, a way-finder and keys give to be written.
-use mathlib.Core.Path.{_≡_, refl, sym, ap, _∙_}
-use mathlib.Core.Bool.{Bool, true, false, cond, not, _&&_, _||_}
+use mathlib.Core.Path.{_≡_, refl, ap, _∙_}
+use mathlib.Core.Bool.{Bool, true, false, cond, not, _&&_}
 use mathlib.Core.List.{List}
 use mathlib.Core.Logic.{_⊎_, inl, inr, ⊎-elim}
-use Prim.Native.Nat.{ℕ, _+_, _*_, _<_, _≤_}
+use Prim.Native.Nat.{ℕ, _+_, _<_, _≤_}
 use native.Mathlib.Omega.{arith}
 use lib.Dec.{eqb, ltb}
 use lib.ListN.{length, getD}
-use Rattle.std.proofs.shelf.Tests.{cases-bool, cond-true, cond-false, eq-eqb, lt-ltb, or-left, or-right, and-from}
+use Rattle.std.proofs.shelf.Tests.{cond-true, cond-false, eq-eqb, lt-ltb, or-left, or-right, and-from}
 use Rattle.std.specs.declared.option.Option.{Option}
 use Rattle.std.specs.declared.option.Option.the-variants.{Some, None}
 use Rattle.map.specs.declared.side.Side.{Side}
@@ -18,8 +18,7 @@ use Rattle.map.specs.Layouts.{Layout}
 use Rattle.map.specs.Rules.{Lawful}
 use Rattle.planfile.specs.declared.block.Head.{Head}
 use Rattle.planfile.specs.Layouts.{entryFits, isThere}
-use Rattle.planwriter.specs.Stops.{stopsFrom, stopsOf}
-use Rattle.planwriter.specs.Files.{Source, entryNumber, entryFor, keyFor, headOf, sourceOf}
+use Rattle.planwriter.specs.Files.{Source, entryNumber, entryFor, keyFor, headFor, sourceOf}
 use Rattle.planwriter.proofs.StopLists.{few, each, rising}
 
 pub record Sound (source : Source) : Type 0 where
@@ -67,12 +66,12 @@ sound layout first way keys lawful fit =
       few = let l = few layout 256 0 in let m = lawful .few in omega arith;
       there = λ i h. lawful .stops-there _ (each layout 256 0 i h .is);
       rising = λ i h. rising layout 256 0 i h;
-      entries = λ stop t. has-entry (headOf layout) first way stop t _ refl .0;
-      small = λ stop t. has-entry (headOf layout) first way stop t _ refl .1;
+      entries = λ stop t. has-entry (headFor layout) first way stop t _ refl .0;
+      small = λ stop t. has-entry (headFor layout) first way stop t _ refl .1;
       missing = λ s e. cond-false _ _ _ e;
-      keys = λ s. small-key s (isThere (headOf layout) s) refl;
+      keys = λ s. small-key s (isThere (headFor layout) s) refl;
     }
   where
-    small-key : (s : ℕ) (b : Bool) → isThere (headOf layout) s ≡ b → keyFor (headOf layout) keys s < 65536
-    small-key s true e = let is = cond-true (isThere (headOf layout) s) (getD keys s 0) 0 e in let l = fit s in omega arith
-    small-key s false e = let is = cond-false (isThere (headOf layout) s) (getD keys s 0) 0 e in omega arith
+    small-key : (s : ℕ) (b : Bool) → isThere (headFor layout) s ≡ b → keyFor (headFor layout) keys s < 65536
+    small-key s true e = let is = cond-true (isThere (headFor layout) s) (getD keys s 0) 0 e in let l = fit s in omega arith
+    small-key s false e = let is = cond-false (isThere (headFor layout) s) (getD keys s 0) 0 e in omega arith

@@ -2,12 +2,12 @@
 use mathlib.Core.Path.{_≡_, refl, sym, ap, _∙_}
 use mathlib.Core.Bool.{Bool, true, false, cond}
 use mathlib.Core.List.{List, [], _∷_, _++_}
-use mathlib.Core.Logic.{_⊎_, inl, inr, ⊎-elim}
+use mathlib.Core.Logic.{_⊎_, ⊎-elim}
 use Prim.Native.Nat.{ℕ, zero, suc, _+_, _-_, _<_, _≤_}
 use native.Mathlib.Omega.{arith}
 use lib.ListN.{length, getD, set, take, drop}
 use Rattle.std.proofs.shelf.Lists.{drop-more, drop-all, getD-past, append-assoc, append-nil, length-set, take-more-set}
-use Rattle.std.proofs.shelf.Tests.{cond-true, cond-false, cases-lt, both-ways}
+use Rattle.std.proofs.shelf.Tests.{cond-true, cond-false, cases-lt}
 use Rattle.map.specs.Counts.{howMany}
 use Rattle.map.specs.Layouts.{Layout, isStop}
 use Rattle.planwriter.specs.Stops.{stopsFrom, stopsOf}

@@ -1,5 +1,5 @@
 -- The file that is written for a floor, its stops, a way-finder and keys.
-use mathlib.Core.Bool.{Bool, true, false, cond, not, _&&_}
+use mathlib.Core.Bool.{cond, not, _&&_}
 use mathlib.Core.List.{List, [], _++_, map}
 use Prim.Native.Nat.{ℕ, zero, suc, _+_, _-_, _*_, _/_, _%_}
 use lib.Dec.{eqb, leb, ltb}
@@ -44,12 +44,12 @@ entryFor head first way stop table =
 abbrev pub keyFor : Head → List ℕ → ℕ → ℕ
 keyFor head keys segment = cond (isThere head segment) (getD keys segment 0) 0
 
-abbrev pub headOf : Layout → Head
-headOf layout = record { width = layout .width; height = layout .height; count = length (stopsOf layout) }
+abbrev pub headFor : Layout → Head
+headFor layout = record { width = layout .width; height = layout .height; count = length (stopsOf layout) }
 
 abbrev pub sourceOf : Layout → (ℕ → ℕ → ℕ) → (ℕ → ℕ → ℕ → Option (Side × ℕ)) → List ℕ → Source
 sourceOf layout first way keys =
-    record { head = headOf layout; stops = stopsOf layout; entry = entryFor (headOf layout) first way; key = keyFor (headOf layout) keys }
+    record { head = headFor layout; stops = stopsOf layout; entry = entryFor (headFor layout) first way; key = keyFor (headFor layout) keys }
 
 -- the head: width, height and number of stops at 4, 5 and 6, the stops from 8 on, and zeros
 abbrev pub headByte : Head → List ℕ → ℕ → ℕ

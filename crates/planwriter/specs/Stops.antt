@@ -1,5 +1,5 @@
 -- The stops of a map in rising order.
-use mathlib.Core.Bool.{Bool, cond}
+use mathlib.Core.Bool.{cond}
 use mathlib.Core.List.{List, [], _∷_}
 use Prim.Native.Nat.{ℕ, zero, suc, _+_}
 use Rattle.map.specs.Layouts.{Layout, isStop}

@@ -4,7 +4,7 @@ ghost use Prim.Native.Nat.{_<_, _≤_};
 ghost use lib.ListN.{length};
 ghost use Rattle.map.specs.Layouts.{layout};
 ghost use Rattle.planwriter.specs.Stops.{stopsOf};
-ghost use Rattle.planwriter.specs.Files.{entryNumber, entryFor, keyFor, headOf, sourceOf, headByte, wayByte, keyHalf, keyByte, contentByte, contentOf};
+ghost use Rattle.planwriter.specs.Files.{entryNumber, entryFor, keyFor, headFor, sourceOf, headByte, wayByte, keyHalf, keyByte, contentByte, contentOf};
 use map::map::Map;
 use map::side::Side;
 use planfile::block::Content;
@@ -22,7 +22,7 @@ fn entry_number(way: Option<(Side, u32)>) -> u8
 
 /// The entry of a table for a stop.
 fn entry_for<W: WayFinder>(map: &Map, finder: &W, stop: u8, table: u8) -> u8
-    ensures is { λ r. ⌜ r ≡ entryFor (headOf (layout (now (map .entry)))) (W·WayFinder .first (now (finder .entry))) (W·WayFinder .way (now (finder .entry))) stop table ⌝ }
+    ensures is { λ r. ⌜ r ≡ entryFor (headFor (layout (now (map .entry)))) (W·WayFinder .first (now (finder .entry))) (W·WayFinder .way (now (finder .entry))) stop table ⌝ }
     ensures small { λ r. ⌜ r < 16 ⌝ }
 {
     if map.has(table) && table != stop {
@@ -35,7 +35,7 @@ fn entry_for<W: WayFinder>(map: &Map, finder: &W, stop: u8, table: u8) -> u8
 
 fn key_for(map: &Map, keys: &[u16], segment: u16) -> u16
     requires { ⌜ length (now keys) ≡ 1024 ⌝ }
-    ensures { λ r. ⌜ r ≡ keyFor (headOf (layout (now (map .entry)))) (now (keys .entry)) segment ⌝ }
+    ensures { λ r. ⌜ r ≡ keyFor (headFor (layout (now (map .entry)))) (now (keys .entry)) segment ⌝ }
 {
     if segment < 1024 && map.head(segment).is_some() {
         keys[segment as usize]
@@ -46,7 +46,7 @@ fn key_for(map: &Map, keys: &[u16], segment: u16) -> u16
 
 fn head_byte(map: &Map, stops: &[u8], place: usize) -> u8
     requires { ⌜ now stops ≡ stopsOf (layout (now map)) ⌝ ∗ ⌜ length (now stops) ≤ 64 ⌝ }
-    ensures { λ r. ⌜ r ≡ headByte (headOf (layout (now (map .entry)))) (now (stops .entry)) place ⌝ }
+    ensures { λ r. ⌜ r ≡ headByte (headFor (layout (now (map .entry)))) (now (stops .entry)) place ⌝ }
 {
     if place < 5 {
         map.width()
@@ -64,7 +64,7 @@ fn head_byte(map: &Map, stops: &[u8], place: usize) -> u8
 }
 
 fn way_byte<W: WayFinder>(map: &Map, finder: &W, stop: u8, place: usize) -> u8
-    ensures { λ r. ⌜ r ≡ wayByte (entryFor (headOf (layout (now (map .entry)))) (W·WayFinder .first (now (finder .entry))) (W·WayFinder .way (now (finder .entry)))) stop place ⌝ }
+    ensures { λ r. ⌜ r ≡ wayByte (entryFor (headFor (layout (now (map .entry)))) (W·WayFinder .first (now (finder .entry))) (W·WayFinder .way (now (finder .entry)))) stop place ⌝ }
 {
     if place < 5 {
         stop
@@ -87,7 +87,7 @@ fn key_half(place: usize, key: u16) -> u8
 
 fn key_byte(map: &Map, keys: &[u16], part: u8, place: usize) -> u8
     requires { ⌜ length (now keys) ≡ 1024 ⌝ }
-    ensures { λ r. ⌜ r ≡ keyByte (keyFor (headOf (layout (now (map .entry)))) (now (keys .entry))) part place ⌝ }
+    ensures { λ r. ⌜ r ≡ keyByte (keyFor (headFor (layout (now (map .entry)))) (now (keys .entry))) part place ⌝ }
 {
     if place < 5 {
         part

@@ -37,6 +37,7 @@ use Rattle.check.specs.Pairs.{wantedPairs}
 use Rattle.check.specs.Plans.{planCheck}
 use Rattle.check.specs.Decisions.{Passed, Decided, allSegments, longestRoute}
 use Rattle.check.proofs.Decides.{passes, decided}
+use Rattle.trays.proofs.Lists.{none-some}
 use Rattle.promise.specs.Trees.{treeRouting, StopsJoined, TreePasses, EveryTreePasses}
 
 -- Pairs of numbers are ordered strictly.
@@ -77,9 +78,6 @@ less-on x y z (inr a) (inr b) = inr (a .0 ∙ b .0, omega (arith, a .1, b .1))
 
 pair-transitive : (x y z : Pair ℕ ℕ) → pairBefore x y ≡ true → pairBefore y z ≡ true → pairBefore x z ≡ true
 pair-transitive x y z e f = more x z (less-on x y z (less x y e) (less y z f))
-
-none-some : {A : Type 0} (x : Option A) (a : A) → x ≡ None → x ≡ Some a → ⊥
-none-some x a p q = let z : _≡_ {A = ℕ} 0 1 = cc in omega arith
 
 module _ (m : Layout) (lawful : Lawful m) where
   size : Sized m

@@ -11,7 +11,7 @@ use Rattle.std.specs.declared.result.Result.{Result}
 use Rattle.std.specs.declared.result.Result.the-variants.{Ok, Err}
 use Rattle.script.specs.declared.call.Fault.{Fault}
 use Rattle.script.specs.declared.call.Fault.the-variants.{WrongWords}
-use Rattle.script.specs.Parts.{texts, withNone, withOne, withTwo}
+use Rattle.script.specs.Parts.{texts, withNone, withOne, withTwo, withThree}
 
 -- a word as the code holds it
 abbrev pub Word : Type 0
@@ -54,6 +54,17 @@ two-words d ws e =
     ∙ (ap (λ t. wordAt ws 0 d ∷ t) (one-word d (rest ws) (omega (arith, length-rest ws)))
     ∙ ap (λ t. wordAt ws 0 d ∷ t ∷ []) (second-word d ws (omega arith)))
 
+third-word : (d : Word) (ws : List Word) → 3 ≤ length ws → wordAt (rest ws) 1 d ≡ wordAt ws 2 d
+third-word d [] h = refl
+third-word d (v ∷ ws) h = ap (λ t. wordAt t 1 d) (take-all (length (v ∷ ws) - 1) ws (omega arith))
+
+pub three-words : (d : Word) (ws : List Word) → length ws ≡ 3 → texts ws ≡ wordAt ws 0 d ∷ wordAt ws 1 d ∷ wordAt ws 2 d ∷ []
+three-words d ws e =
+    first-word d ws (omega arith)
+    ∙ (ap (λ t. wordAt ws 0 d ∷ t) (two-words d (rest ws) (omega (arith, length-rest ws)))
+    ∙ (ap (λ t. wordAt ws 0 d ∷ t ∷ wordAt (rest ws) 1 d ∷ []) (second-word d ws (omega arith))
+    ∙ ap (λ t. wordAt ws 0 d ∷ wordAt ws 1 d ∷ t ∷ []) (third-word d ws (omega arith))))
+
 -- with another number of words there is a fault
 pub not-none : {B : Type 0} (r : Result B Fault) (ws : List Word) → (length ws ≡ 0 → ⊥) → withNone r (texts ws) ≡ Err WrongWords
 not-none r [] h = elim (h refl) [ ]
@@ -66,3 +77,7 @@ not-one f (w ∷ ws) h = not-none (f (w .now)) ws (λ e. h (ap suc e))
 pub not-two : {B : Type 0} (f : List ℕ → List ℕ → Result B Fault) (ws : List Word) → (length ws ≡ 2 → ⊥) → withTwo f (texts ws) ≡ Err WrongWords
 not-two f [] h = refl
 not-two f (w ∷ ws) h = not-one (f (w .now)) ws (λ e. h (ap suc e))
+
+pub not-three : {B : Type 0} (f : List ℕ → List ℕ → List ℕ → Result B Fault) (ws : List Word) → (length ws ≡ 3 → ⊥) → withThree f (texts ws) ≡ Err WrongWords
+not-three f [] h = refl
+not-three f (w ∷ ws) h = not-two (f (w .now)) ws (λ e. h (ap suc e))

@@ -12,7 +12,8 @@ use Rattle.script.specs.declared.verb.Kind.{Kind}
 use Rattle.script.specs.declared.verb.Kind.the-variants.{Table, Segment}
 use Rattle.script.specs.declared.parts.Part.{Part}
 use Rattle.script.specs.declared.parts.Part.the-variants.{ATable, ASegment}
-use Rattle.script.specs.Verbs.{kindOf}
+use Rattle.script.specs.declared.call.PlanKind.{PlanKind}
+use Rattle.script.specs.Verbs.{kindOf, planNamed}
 use Rattle.script.specs.Numbers.{numberUpTo}
 
 -- the bytes of each word of a line
@@ -48,9 +49,16 @@ abbrev pub withTwo : {B : Type 0} → (List ℕ → List ℕ → Result B Fault)
 withTwo f [] = Err WrongWords
 withTwo f (v ∷ ws) = withOne (f v) ws
 
+abbrev pub withThree : {B : Type 0} → (List ℕ → List ℕ → List ℕ → Result B Fault) → List (List ℕ) → Result B Fault
+withThree f [] = Err WrongWords
+withThree f (v ∷ ws) = withTwo (f v) ws
+
 -- the first word that is at fault tells the fault
 abbrev pub bothTables : List ℕ → List ℕ → Result (ℕ × ℕ) Fault
 bothTables v w = then (tableOf v) (λ x. into (λ y. (x, y)) (tableOf w))
+
+abbrev pub allTables : List ℕ → List ℕ → List ℕ → Result (ℕ × ℕ × ℕ) Fault
+allTables u v w = then (tableOf u) (λ x. then (tableOf v) (λ y. into (λ z. (x, y, z)) (tableOf w)))
 
 abbrev pub nothing : List (List ℕ) → Result (Unit {0}) Fault
 nothing ws = withNone (Ok tt) ws
@@ -60,6 +68,9 @@ oneTable ws = withOne tableOf ws
 
 abbrev pub twoTables : List (List ℕ) → Result (ℕ × ℕ) Fault
 twoTables ws = withTwo bothTables ws
+
+abbrev pub threeTables : List (List ℕ) → Result (ℕ × ℕ × ℕ) Fault
+threeTables ws = withThree allTables ws
 
 abbrev pub oneSegment : List (List ℕ) → Result ℕ Fault
 oneSegment ws = withOne segmentOf ws
@@ -73,3 +84,12 @@ partBy (Some Segment) ws = into ASegment (oneSegment ws)
 abbrev pub partOf : List (List ℕ) → Result Part Fault
 partOf [] = Err WrongWords
 partOf (k ∷ ws) = partBy (kindOf k) ws
+
+abbrev pub planBy : Option PlanKind → List (List ℕ) → Result PlanKind Fault
+planBy None ws = Err NoSuchCall
+planBy (Some p) ws = into (λ _. p) (nothing ws)
+
+-- a plan, by its name alone
+abbrev pub planOf : List (List ℕ) → Result PlanKind Fault
+planOf [] = Err WrongWords
+planOf (k ∷ ws) = planBy (planNamed k) ws

@@ -1,6 +1,7 @@
 ghost use mathlib.Core.Path.{_≡_};
-ghost use Rattle.script.specs.Parts.{texts, tableOf, oneTable, twoTables, oneSegment, partOf, nothing};
+ghost use Rattle.script.specs.Parts.{texts, tableOf, oneTable, twoTables, threeTables, oneSegment, partOf, planOf, nothing};
 use crate::call::Fault;
+use crate::call::PlanKind;
 use crate::number::read_number;
 use crate::verb::Kind;
 
@@ -47,7 +48,16 @@ pub(crate) fn read_two_tables(words: &[&str]) -> Result<(u8, u8), Fault>
     Ok((read_table(first)?, read_table(second)?))
 }
 
-fn read_one_segment(words: &[&str]) -> Result<u16, Fault>
+pub(crate) fn read_three_tables(words: &[&str]) -> Result<(u8, u8, u8), Fault>
+    ensures { λ r. ⌜ r ≡ threeTables (texts (now (words .entry))) ⌝ }
+{
+    let [first, second, third] = words else {
+        return Err(Fault::WrongWords);
+    };
+    Ok((read_table(first)?, read_table(second)?, read_table(third)?))
+}
+
+pub(crate) fn read_one_segment(words: &[&str]) -> Result<u16, Fault>
     ensures { λ r. ⌜ r ≡ oneSegment (texts (now (words .entry))) ⌝ }
 {
     let [segment] = words else {
@@ -69,4 +79,17 @@ pub(crate) fn read_part(words: &[&str]) -> Result<Part, Fault>
         Kind::Table => Ok(Part::ATable(read_one_table(rest)?)),
         Kind::Segment => Ok(Part::ASegment(read_one_segment(rest)?)),
     }
+}
+
+pub(crate) fn read_plan(words: &[&str]) -> Result<PlanKind, Fault>
+    ensures { λ r. ⌜ r ≡ planOf (texts (now (words .entry))) ⌝ }
+{
+    let [first, rest @ ..] = words else {
+        return Err(Fault::WrongWords);
+    };
+    let Some(plan) = PlanKind::read(first) else {
+        return Err(Fault::NoSuchCall);
+    };
+    read_nothing(rest)?;
+    Ok(plan)
 }

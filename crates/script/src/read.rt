@@ -5,10 +5,15 @@ ghost use Rattle.script.specs.Calls.{callOf, callBy, closing, reopening};
 use crate::call::Call;
 use crate::call::Change;
 use crate::call::Fault;
+use crate::call::FloorUse;
+use crate::call::ViaChange;
 use crate::parts::Part;
 use crate::parts::read_nothing;
+use crate::parts::read_one_segment;
 use crate::parts::read_one_table;
 use crate::parts::read_part;
+use crate::parts::read_plan;
+use crate::parts::read_three_tables;
 use crate::parts::read_two_tables;
 use crate::verb::Verb;
 
@@ -49,6 +54,38 @@ impl Verb {
             Verb::Draw => {
                 read_nothing(words)?;
                 Ok(Call::DrawMap)
+            }
+            Verb::Plan => Ok(Call::ChoosePlan(read_plan(words)?)),
+            Verb::Detour => {
+                read_nothing(words)?;
+                Ok(Call::AddDetour)
+            }
+            Verb::Via => {
+                let (origin, destination, via) = read_three_tables(words)?;
+                Ok(Call::ChangeVias(ViaChange::AddVia(origin, destination, via)))
+            }
+            Verb::Unvia => {
+                let (origin, destination) = read_two_tables(words)?;
+                Ok(Call::ChangeVias(ViaChange::RemoveVia(origin, destination)))
+            }
+            Verb::Check => {
+                read_nothing(words)?;
+                Ok(Call::CheckPlan)
+            }
+            Verb::Open => {
+                read_nothing(words)?;
+                Ok(Call::OpenFloor)
+            }
+            Verb::Enter => {
+                let (origin, destination) = read_two_tables(words)?;
+                Ok(Call::UseFloor(FloorUse::EnterTray(origin, destination)))
+            }
+            Verb::Advance => Ok(Call::UseFloor(FloorUse::AdvanceTray(read_one_segment(words)?))),
+            Verb::Left => Ok(Call::UseFloor(FloorUse::CountLeft(read_one_segment(words)?))),
+            Verb::Look => Ok(Call::UseFloor(FloorUse::LookAt(read_one_segment(words)?))),
+            Verb::Counts => {
+                read_nothing(words)?;
+                Ok(Call::UseFloor(FloorUse::TellCounts))
             }
         }
     }

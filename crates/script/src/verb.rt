@@ -1,5 +1,6 @@
 ghost use mathlib.Core.Path.{_≡_};
-ghost use Rattle.script.specs.Verbs.{verbOf, kindOf};
+ghost use Rattle.script.specs.Verbs.{verbOf, kindOf, planNamed};
+use crate::call::PlanKind;
 
 /// The first word of a line.
 #[derive(Clone, Copy)]
@@ -10,6 +11,17 @@ pub(crate) enum Verb {
     Close,
     Reopen,
     Draw,
+    Plan,
+    Detour,
+    Via,
+    Unvia,
+    Check,
+    Open,
+    Enter,
+    Advance,
+    Left,
+    Look,
+    Counts,
 }
 
 /// What is closed or reopened.
@@ -30,6 +42,17 @@ impl Verb {
             "close" => Some(Verb::Close),
             "reopen" => Some(Verb::Reopen),
             "draw" => Some(Verb::Draw),
+            "plan" => Some(Verb::Plan),
+            "detour" => Some(Verb::Detour),
+            "via" => Some(Verb::Via),
+            "unvia" => Some(Verb::Unvia),
+            "check" => Some(Verb::Check),
+            "open" => Some(Verb::Open),
+            "enter" => Some(Verb::Enter),
+            "advance" => Some(Verb::Advance),
+            "left" => Some(Verb::Left),
+            "look" => Some(Verb::Look),
+            "counts" => Some(Verb::Counts),
             _ => None,
         }
     }
@@ -42,6 +65,18 @@ impl Kind {
         match word {
             "table" => Some(Kind::Table),
             "segment" => Some(Kind::Segment),
+            _ => None,
+        }
+    }
+}
+
+impl PlanKind {
+    pub(crate) fn read(word: &str) -> Option<PlanKind>
+        ensures { λ r. ⌜ r ≡ planNamed (now (word .entry)) ⌝ }
+    {
+        match word {
+            "row-first" => Some(PlanKind::RowFirst),
+            "tree" => Some(PlanKind::Tree),
             _ => None,
         }
     }

@@ -1,7 +1,7 @@
 use Prim.Native.Nat.{_≤_, _<_}
 use native.Mathlib.Omega.{arith}
 use borrow.Author.Needs.{needs}
-use borrow.Author.Tests.{ltb-true, ltb-false}
+use borrow.Author.Tests.{ltb-true}
 use lib.ListN.{length}
 use Rattle.std.proofs.shelf.Lists.{take-rest}
 use Rattle.blocks.proofs.Sums.{words-few, words-four, one-byte}

@@ -1,6 +1,5 @@
-use Prim.Native.Nat.{_+_, _-_, _<_}
-use mathlib.Core.Path.{_≡_, refl, sym, ap, _∙_}
-use native.Mathlib.Omega.{arith}
+use Prim.Native.Nat.{_-_}
+use mathlib.Core.Path.{sym, _∙_}
 use Rattle.planfile.specs.Layouts.{byteFits}
 use Rattle.planfile.proofs.Places.{all-more, all-stops, all-none}
 use Rattle.planfile.proofs.bytes.body_fits.Needs as need

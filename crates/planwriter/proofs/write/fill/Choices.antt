@@ -1,6 +1,6 @@
 use Prim.Native.Nat.{ℕ, _<_}
 use mathlib.Core.Path.{_≡_}
-use lib.ListN.{length, getD}
+use lib.ListN.{getD}
 use Rattle.map.specs.Layouts.{layout}
 use Rattle.planwriter.specs.Files.{sourceOf, blockByte}
 use Rattle.planwriter.proofs.write.fill.Given as given

@@ -1,5 +1,4 @@
-use mathlib.Core.Path.{_≡_, refl, sym, ap, _∙_}
-use borrow.Author.Needs.{needs}
+use mathlib.Core.Path.{refl}
 use Rattle.std.proofs.shelf.Results.{err-from-errBy}
 use Rattle.planfile.proofs.Verdicts.{none-some}
 use Rattle.planfile.proofs.Judgements.{of-layout, plan-not-refused, first-fault}

@@ -1,0 +1,9 @@
+pub mod Finders
+pub mod Plans
+pub mod Outcomes
+pub mod Texts
+pub mod Uses
+pub mod Answers
+pub mod Laters
+pub mod Sessions
+pub mod Tallies
