@@ -2,7 +2,7 @@ use std::alloc::AllocError;
 use std::alloc::Global;
 
 /// The words of a line, without its comment.
-pub fn words_of(heap: Global, line: &str) -> Result<Vec<&str>, AllocError> {
+pub(crate) fn words_of(heap: Global, line: &str) -> Result<Vec<&str>, AllocError> {
     let said = match line.split_once('#') {
         Some((before, _)) => before,
         None => line,
@@ -11,7 +11,7 @@ pub fn words_of(heap: Global, line: &str) -> Result<Vec<&str>, AllocError> {
 }
 
 /// The words with one blank between them.
-pub fn joined(heap: Global, words: &[&str]) -> Result<String, AllocError> {
+pub(crate) fn joined(heap: Global, words: &[&str]) -> Result<String, AllocError> {
     let mut text = String::new(heap);
     for word in words {
         if !text.is_empty() {
