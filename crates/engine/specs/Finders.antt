@@ -1,21 +1,24 @@
 -- The way-finders of a script's plans: the named ones, and detours over them.
 use Rattle.std.specs.Prelude.{ℕ, Some, None, Option}
 use Rattle.map.specs.declared.side.Side.{Side}
-use Rattle.ways.specs.RowFirsts.{row_first_way}
-use Rattle.tree.specs.Finders.{way_by}
-use Rattle.planfile.specs.Plans.{way_in}
+use Rattle.orders.specs.declared.key.Pair.{Pair}
+use Rattle.ways.specs.RowFirsts.{row_first_way, row_first_key}
+use Rattle.tree.specs.Finders.{way_by, key_by}
 use Rattle.detour.specs.declared.detour.Detour.{Detour}
 use Rattle.detour.specs.Vias.{no_vias}
 use Rattle.detour.specs.Detours.{detour_first, detour_way}
 use Rattle.engine.specs.declared.finder.Named.{Named}
-use Rattle.engine.specs.declared.finder.Named.TheVariants.{ByRows, ByTree, ByFile}
+use Rattle.engine.specs.declared.finder.Named.TheVariants.{ByRows, ByTree}
 use Rattle.engine.specs.declared.finder.Finder.{Finder}
 use Rattle.engine.specs.declared.finder.Finder.TheVariants.{Bare, Once, Twice, Thrice}
 
 abbrev pub named_way : Named → ℕ → ℕ → Option (Side × ℕ)
 named_way (ByRows w) t d = row_first_way t d
 named_way (ByTree w) t d = way_by w t d
-named_way (ByFile w) t d = way_in w.bytes t d
+
+abbrev pub named_key : Named → ℕ → Pair ℕ ℕ
+named_key (ByRows w) n = row_first_key n
+named_key (ByTree w) n = key_by w n
 
 -- the two functions of a named plan, and of one, two and three detours over it
 abbrev pub first0 : Named → ℕ → ℕ → ℕ

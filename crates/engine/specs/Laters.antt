@@ -1,38 +1,32 @@
 -- The store that each call of a script leaves.
-use Rattle.std.specs.Prelude.{◌≡◌, ℕ, Bool, List, ◌++◌, drop, Some, None, Ok, Err, Option, Result, nat_lt}
+use Rattle.std.specs.Prelude.{◌≡◌, ℕ, Some, None, Ok, Err, Option, Result}
 use Rattle.map.specs.declared.map.Map.{Map}
 use Rattle.map.specs.declared.side.Side.{Side}
 use Rattle.map.specs.declared.refusal.Refusal.{Refusal}
 use Rattle.map.specs.Layouts.{Layout}
 use Rattle.map.specs.Changes.{new_map}
+use Rattle.orders.specs.declared.key.Pair.{Pair}
 use Rattle.ways.specs.RowFirsts.{row_first_way, row_first_key}
 use Rattle.links.specs.Ways.{tree_way, tree_key}
-use Rattle.links.specs.Courses.{pair_before}
-use Rattle.planfile.specs.declared.refusal.Refusal as Files
-use Rattle.planfile.specs.Outcomes.{read_outcome}
-use Rattle.planfile.specs.Plans.{way_in, key_in}
-use Rattle.planwriter.specs.Files.{file_of, source_of}
-use Rattle.routes.specs.Routings.{by_key}
 use Rattle.check.specs.Plans.{plan_check}
 use Rattle.detour.specs.declared.refusal.Refusal as Detours
 use Rattle.floor.specs.declared.floor.Floor.{Floor}
 use Rattle.floor.specs.Floors.{empty_floor}
 use Rattle.script.specs.declared.call.Fault.{Fault}
 use Rattle.script.specs.declared.call.Call.{Call}
-use Rattle.script.specs.declared.call.Call.TheVariants.{MakeMap, ChangeMap, DrawMap, ChoosePlan, AddDetour, ChangeVias, WritePlan, CheckPlan, OpenFloor, UseFloor}
+use Rattle.script.specs.declared.call.Call.TheVariants.{MakeMap, ChangeMap, DrawMap, ChoosePlan, AddDetour, ChangeVias, CheckPlan, OpenFloor, UseFloor}
 use Rattle.script.specs.declared.call.Change.{Change}
 use Rattle.script.specs.declared.call.PlanKind.{PlanKind}
-use Rattle.script.specs.declared.call.PlanKind.TheVariants.{RowFirst, Tree, File}
+use Rattle.script.specs.declared.call.PlanKind.TheVariants.{RowFirst, Tree}
 use Rattle.script.specs.declared.call.ViaChange.{ViaChange}
 use Rattle.script.specs.declared.call.FloorUse.{FloorUse}
 use Rattle.engine.specs.declared.finder.Finder.{Finder}
 use Rattle.engine.specs.declared.plan.Plan.{Plan}
 use Rattle.engine.specs.declared.store.Store.{Store}
-use Rattle.engine.specs.Finders.{named_way, finder_first, finder_way, detoured}
-use Rattle.engine.specs.Keys.{named_rises, pair_number, key_number, key_numbers}
+use Rattle.engine.specs.Finders.{named_way, named_key, detoured}
 use Rattle.engine.specs.Plans.{new_plan, with_finder, judged, via_answer, via_later}
 use Rattle.engine.specs.Uses.{floor_later}
-use Rattle.engine.specs.Answers.{map_of, changed, plan_routing, written}
+use Rattle.engine.specs.Answers.{map_of, changed, plan_routing}
 
 -- a refusal leaves what there was
 abbrev pub instead : Option Layout → Result Layout Refusal → Option Layout
@@ -50,7 +44,6 @@ later_map o DrawMap = o
 later_map o (ChoosePlan k) = o
 later_map o AddDetour = o
 later_map o (ChangeVias x) = o
-later_map o WritePlan = o
 later_map o CheckPlan = o
 later_map o OpenFloor = o
 later_map o (UseFloor u) = o
@@ -73,28 +66,16 @@ abbrev pub changed_plan : Option Layout → Change → Option Plan → Option Pl
 changed_plan None x o = o
 changed_plan (Some m) x o = unchecked_if (changed m x) o
 
--- a new plan with these ways, its segments' keys in this order, and written as these numbers
-abbrev pub IsNew : (ℕ → ℕ → Option (Side × ℕ)) → (ℕ → ℕ → Bool) → (ℕ → ℕ) → Option Plan → Type 0
-IsNew way rises number None = ⊥
-IsNew way rises number (Some p) =
-    (p ≡ new_plan p.named) × ((t d : ℕ) → named_way p.named t d ≡ way t d)
-    × ((a b : ℕ) → named_rises p.named a b ≡ rises a b) × ((s : ℕ) → key_number p.named s ≡ number s)
+-- a new plan with these ways and keys
+abbrev pub IsNew : (ℕ → ℕ → Option (Side × ℕ)) → (ℕ → Pair ℕ ℕ) → Option Plan → Type 0
+IsNew way key None = ⊥
+IsNew way key (Some p) = (p ≡ new_plan p.named) × ((t d : ℕ) → named_way p.named t d ≡ way t d) × ((n : ℕ) → named_key p.named n ≡ key n)
 
--- a file that is refused leaves the plan that there was
-abbrev pub ReadIf : Option Files.Refusal → List ℕ → Option Plan → Option Plan → Type 0
-ReadIf None file old new = IsNew (way_in file) (by_key nat_lt (key_in file)) (key_in file) new
-ReadIf (Some e) file old new = new ≡ old
-
-abbrev pub ReadIn : List ℕ → Option Plan → Option Plan → Type 0
-ReadIn file old new = ReadIf (read_outcome file) file old new
-
--- row-first, the tree of the map as it is, or the plan in the file
-abbrev pub Chosen : Option Layout → PlanKind → Option (List ℕ) → Option Plan → Option Plan → Type 0
-Chosen o RowFirst file old new = IsNew row_first_way (by_key pair_before row_first_key) (λ s. pair_number (row_first_key s)) new
-Chosen None Tree file old new = new ≡ old
-Chosen (Some m) Tree file old new = IsNew (tree_way m) (by_key pair_before (tree_key m)) (λ s. pair_number (tree_key m s)) new
-Chosen o File None old new = new ≡ old
-Chosen o File (Some file) old new = ReadIn file old new
+-- row-first, or the tree of the map as it is
+abbrev pub Chosen : Option Layout → PlanKind → Option Plan → Option Plan → Type 0
+Chosen o RowFirst old new = IsNew row_first_way row_first_key new
+Chosen None Tree old new = new ≡ old
+Chosen (Some m) Tree old new = IsNew (tree_way m) (tree_key m) new
 
 abbrev pub over_if : Plan → Option Finder → Option Plan
 over_if p None = Some p
@@ -118,17 +99,16 @@ check_later None o = o
 check_later (Some m) None = None
 check_later (Some m) (Some p) = Some (judged p (plan_check (plan_routing m p)))
 
-abbrev pub PlanLater : Store → Call → Option (List ℕ) → Option Plan → Type 0
-PlanLater s (MakeMap w h) file new = new ≡ new_map_else (new_map w h) s.plan
-PlanLater s (ChangeMap x) file new = new ≡ changed_plan (map_of s.map) x s.plan
-PlanLater s DrawMap file new = new ≡ s.plan
-PlanLater s (ChoosePlan k) file new = Chosen (map_of s.map) k file s.plan new
-PlanLater s AddDetour file new = new ≡ detour_later s.plan
-PlanLater s (ChangeVias x) file new = new ≡ vias_later s.plan x
-PlanLater s WritePlan file new = new ≡ s.plan
-PlanLater s CheckPlan file new = new ≡ check_later (map_of s.map) s.plan
-PlanLater s OpenFloor file new = new ≡ s.plan
-PlanLater s (UseFloor u) file new = new ≡ s.plan
+abbrev pub PlanLater : Store → Call → Option Plan → Type 0
+PlanLater s (MakeMap w h) new = new ≡ new_map_else (new_map w h) s.plan
+PlanLater s (ChangeMap x) new = new ≡ changed_plan (map_of s.map) x s.plan
+PlanLater s DrawMap new = new ≡ s.plan
+PlanLater s (ChoosePlan k) new = Chosen (map_of s.map) k s.plan new
+PlanLater s AddDetour new = new ≡ detour_later s.plan
+PlanLater s (ChangeVias x) new = new ≡ vias_later s.plan x
+PlanLater s CheckPlan new = new ≡ check_later (map_of s.map) s.plan
+PlanLater s OpenFloor new = new ≡ s.plan
+PlanLater s (UseFloor u) new = new ≡ s.plan
 
 -- a floor keeps the map and the way-finder that it was opened on
 abbrev pub open_later : Option Map → Option Plan → Option (Floor Finder) → Option (Floor Finder)
@@ -147,47 +127,19 @@ later_floor s DrawMap = s.floor
 later_floor s (ChoosePlan k) = s.floor
 later_floor s AddDetour = s.floor
 later_floor s (ChangeVias x) = s.floor
-later_floor s WritePlan = s.floor
 later_floor s CheckPlan = s.floor
 later_floor s OpenFloor = open_later s.map s.plan s.floor
 later_floor s (UseFloor u) = use_later s.floor u
-
--- a plan that is written stands at the buffer's start, and the rest of the buffer stays
-abbrev pub in_buffer : Result ℕ Files.Refusal → List ℕ → List ℕ → List ℕ
-in_buffer (Ok n) file buffer = file ++ drop n buffer
-in_buffer (Err e) file buffer = buffer
-
-abbrev pub written_in : Option Layout → Option Plan → List ℕ → List ℕ
-written_in None o buffer = buffer
-written_in (Some m) None buffer = buffer
-written_in (Some m) (Some p) buffer = in_buffer (written m p buffer) (file_of (source_of m (finder_first p.finder) (finder_way p.finder) (key_numbers p.named))) buffer
-
--- no other call writes
-abbrev pub later_buffer : Store → Call → List ℕ → List ℕ
-later_buffer s (MakeMap w h) buffer = buffer
-later_buffer s (ChangeMap x) buffer = buffer
-later_buffer s DrawMap buffer = buffer
-later_buffer s (ChoosePlan k) buffer = buffer
-later_buffer s AddDetour buffer = buffer
-later_buffer s (ChangeVias x) buffer = buffer
-later_buffer s WritePlan buffer = written_in (map_of s.map) s.plan buffer
-later_buffer s CheckPlan buffer = buffer
-later_buffer s OpenFloor buffer = buffer
-later_buffer s (UseFloor u) buffer = buffer
 
 -- a line that is no call changes nothing
 abbrev pub line_map : Option Layout → Result Call Fault → Option Layout
 line_map o (Ok c) = later_map o c
 line_map o (Err f) = o
 
-abbrev pub LinePlan : Store → Result Call Fault → Option (List ℕ) → Option Plan → Type 0
-LinePlan s (Ok c) file new = PlanLater s c file new
-LinePlan s (Err f) file new = new ≡ s.plan
+abbrev pub LinePlan : Store → Result Call Fault → Option Plan → Type 0
+LinePlan s (Ok c) new = PlanLater s c new
+LinePlan s (Err f) new = new ≡ s.plan
 
 abbrev pub line_floor : Store → Result Call Fault → Option (Floor Finder)
 line_floor s (Ok c) = later_floor s c
 line_floor s (Err f) = s.floor
-
-abbrev pub line_buffer : Store → Result Call Fault → List ℕ → List ℕ
-line_buffer s (Ok c) buffer = later_buffer s c buffer
-line_buffer s (Err f) buffer = buffer

@@ -1,5 +1,4 @@
 pub mod Finders
-pub mod Keys
 pub mod Plans
 pub mod Outcomes
 pub mod Texts

@@ -2,13 +2,12 @@
 use Rattle.std.specs.Prelude.{ℕ, List, ◌++◌, Some, None, codes, decimal, Option}
 use Rattle.map.specs.Refusals as OfMap
 use Rattle.detour.specs.Vias as OfVias
-use Rattle.planfile.specs.Refusals as OfFiles
 use Rattle.routes.specs.Refusals as OfRoutes
 use Rattle.trays.specs.Refusals as OfTrays
 use Rattle.engine.specs.declared.outcome.Refused as Refusals
-use Rattle.engine.specs.declared.outcome.Refused.TheVariants.{ByMap, ByDetour, ByFile, ByCheck, ByFloor}
+use Rattle.engine.specs.declared.outcome.Refused.TheVariants.{ByMap, ByDetour, ByCheck, ByFloor}
 use Rattle.engine.specs.declared.outcome.Outcome.{Outcome}
-use Rattle.engine.specs.declared.outcome.Outcome.TheVariants.{Done, Drawn, Refused, Passed, Written, LetIn, Advanced, SegmentsLeft, Seen, Counted}
+use Rattle.engine.specs.declared.outcome.Outcome.TheVariants.{Done, Drawn, Refused, Passed, LetIn, Advanced, SegmentsLeft, Seen, Counted}
 
 -- a number, with a word before it
 abbrev pub field : List ℕ → ℕ → List ℕ
@@ -21,14 +20,9 @@ abbrev pub held_and_wanted : ℕ → Option (ℕ × ℕ) → List ℕ
 held_and_wanted n None = by_number n
 held_and_wanted n (Some p) = codes "refused " ++ (decimal n ++ (codes ": held " ++ (decimal p.0 ++ (codes ", wanted " ++ decimal p.1))))
 
-abbrev pub at_block : ℕ → Option ℕ → List ℕ
-at_block n None = by_number n
-at_block n (Some k) = codes "refused " ++ (decimal n ++ (codes ": block " ++ decimal k))
-
 abbrev pub refused_text : Refusals.Refused → List ℕ
 refused_text (ByMap e) = by_number (OfMap.refusal_number e)
 refused_text (ByDetour e) = by_number (OfVias.refusal_number e)
-refused_text (ByFile e) = at_block (OfFiles.refusal_number e) (OfFiles.refusal_block e)
 refused_text (ByCheck e) =
     codes "refused " ++ (decimal (OfRoutes.reason_number e.reason)
     ++ (codes ": origin " ++ (decimal e.origin
@@ -46,7 +40,6 @@ outcome_text (Passed a) =
     codes "pass: pairs " ++ (decimal a.pairs
     ++ (codes ", segments " ++ (decimal a.segments
     ++ (codes ", longest " ++ decimal a.longest))))
-outcome_text (Written n) = decimal n ++ codes " bytes"
 outcome_text (LetIn a) =
     codes "tray " ++ (decimal a.tray
     ++ (codes ", segment " ++ decimal a.segment))

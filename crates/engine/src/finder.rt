@@ -1,19 +1,19 @@
 ghost use Rattle.std.specs.Prelude.{◌≡◌};
-ghost use Rattle.engine.specs.Finders.{named_way, finder_first, finder_way, detoured};
+ghost use Rattle.engine.specs.Finders.{named_way, named_key, finder_first, finder_way, detoured};
 
 use detour::detour::Detour;
 use map::side::Side;
-use planfile::kept::KeptPlan;
+use orders::key::Pair;
+use orders::ranker::Ranker;
 use tree::tree::Tree;
 use ways::finder::WayFinder;
 use ways::rows::RowFirst;
 
-/// A plan that has a name: a way-finder that is its own ranker.
+/// A plan that has a name: a way-finder, and its ranker.
 #[derive(Clone, Copy)]
 pub enum Named {
     ByRows(RowFirst),
     ByTree(Tree),
-    ByFile(KeptPlan),
 }
 
 impl WayFinder for Named {
@@ -25,7 +25,6 @@ impl WayFinder for Named {
         match self {
             Named::ByRows(rows) => rows.first_note(origin, destination),
             Named::ByTree(tree) => tree.first_note(origin, destination),
-            Named::ByFile(plan) => plan.first_note(origin, destination),
         }
     }
 
@@ -33,7 +32,19 @@ impl WayFinder for Named {
         match self {
             Named::ByRows(rows) => rows.way(table, destination, note),
             Named::ByTree(tree) => tree.way(table, destination, note),
-            Named::ByFile(plan) => plan.way(table, destination, note),
+        }
+    }
+}
+
+impl Ranker for Named {
+    type Key = Pair<u16, u16>;
+
+    ghost key = { named_key };
+
+    fn key(&self, segment: u16) -> Pair<u16, u16> {
+        match self {
+            Named::ByRows(rows) => rows.key(segment),
+            Named::ByTree(tree) => tree.key(segment),
         }
     }
 }

@@ -1,6 +1,5 @@
 // A script, call by call: the store that it describes, what each call answers, and what it leaves.
 pub mod finder;
-mod keys;
 pub mod outcome;
 pub mod plan;
 pub mod session;

@@ -6,7 +6,6 @@ use check::pass::Pass;
 use detour::refusal::Refusal as ViaRefusal;
 use floor::floor::{Counts, Entered, Moved};
 use map::refusal::Refusal as MapRefusal;
-use planfile::refusal::Refusal as PlanRefusal;
 use routes::refusal::Refusal as RouteRefusal;
 use script::call::Fault;
 use std::fmt;
@@ -20,8 +19,6 @@ pub enum Outcome {
     Drawn,
     Refused(Refused),
     Passed(Pass),
-    /// How many bytes.
-    Written(usize),
     LetIn(Entered),
     Advanced(Moved),
     SegmentsLeft(u16),
@@ -34,7 +31,6 @@ pub enum Outcome {
 pub enum Refused {
     ByMap(MapRefusal),
     ByDetour(ViaRefusal),
-    ByFile(PlanRefusal),
     ByCheck(RouteRefusal),
     ByFloor(TrayRefusal),
 }
@@ -59,8 +55,6 @@ pub enum Wrong {
     NoDetour,
     NoFloor,
     ThreeDetours,
-    Unreadable,
-    Unwritable,
 }
 
 impl fmt::Display for Refused {
@@ -75,13 +69,6 @@ impl fmt::Display for Refused {
             Refused::ByDetour(refusal) => {
                 let number = refusal.number();
                 write!(f, "refused {number}")
-            }
-            Refused::ByFile(refusal) => {
-                let number = refusal.number();
-                match refusal.block() {
-                    None => write!(f, "refused {number}"),
-                    Some(block) => write!(f, "refused {number}: block {block}"),
-                }
             }
             Refused::ByCheck(refusal) => {
                 let number = refusal.reason.number();
@@ -125,7 +112,6 @@ impl fmt::Display for Outcome {
                     "pass: pairs {pairs}, segments {segments}, longest {longest}"
                 )
             }
-            Outcome::Written(bytes) => write!(f, "{bytes} bytes"),
             Outcome::LetIn(entered) => {
                 let tray = entered.tray;
                 let segment = entered.segment;
@@ -170,8 +156,6 @@ impl fmt::Display for Wrong {
             Wrong::NoDetour => "needs a detour",
             Wrong::NoFloor => "needs a floor",
             Wrong::ThreeDetours => "no more than three detours, one over the other",
-            Wrong::Unreadable => "the file can't be read",
-            Wrong::Unwritable => "the file can't be written",
         })
     }
 }

@@ -1,10 +1,9 @@
 ghost use Rattle.std.specs.Prelude.{◌≡◌, None};
 ghost use Rattle.map.specs.Layouts.{layout};
 ghost use Rattle.check.specs.Plans.{plan_check};
-ghost use Rattle.floor.specs.Floors.{empty_floor};
 ghost use Rattle.map.specs.Changes.{told as mapTold, after, new_map};
-ghost use Rattle.engine.specs.Answers.{bytes_in, changed, map_of, map_outcome, answer_of, change_answer, vias_answer, check_answer, open_answer, plan_routing, verdict_told, use_answer, detour_answer, plan_answer, read_answer, write_answer};
-ghost use Rattle.engine.specs.Laters.{instead, changed_map, later_map, PlanLater, later_floor, unchecked_plan, new_map_else, changed_plan, Chosen, ReadIn, detour_later, vias_later, check_later, open_later, use_later, later_buffer, written_in};
+ghost use Rattle.engine.specs.Answers.{changed, map_of, map_outcome, answer_of, change_answer, vias_answer, check_answer, open_answer, plan_routing, verdict_told, use_answer, detour_answer, plan_answer};
+ghost use Rattle.engine.specs.Laters.{instead, changed_map, later_map, PlanLater, later_floor, unchecked_plan, new_map_else, changed_plan, Chosen, detour_later, vias_later, check_later, open_later, use_later};
 ghost use Rattle.engine.specs.Uses.{floor_answer, floor_later};
 
 use crate::finder::{Finder, Named};
@@ -15,8 +14,6 @@ use check::pass::Pass;
 use floor::floor::Floor;
 use map::map::Map;
 use map::refusal::Refusal;
-use planfile::plan::WrittenPlan;
-use planwriter::write::write;
 use promise::{Opened, open_checked};
 use routes::refusal::Refusal as RouteRefusal;
 use script::call::{Call, Change, FloorUse, PlanKind, ViaChange};
@@ -73,22 +70,7 @@ fn ask_floor(floor: &mut Floor<Finder>, asked: FloorUse) -> Outcome
 fn judge(map: &Map, plan: &Plan) -> Result<Pass, RouteRefusal>
     ensures { result ≡ plan_check (plan_routing (layout map.now) plan.now) }
 {
-    match &plan.named {
-        Named::ByRows(rows) => check(map, &plan.finder, rows),
-        Named::ByTree(tree) => check(map, &plan.finder, tree),
-        Named::ByFile(file) => check(map, &plan.finder, file),
-    }
-}
-
-fn opened(map: Map, plan: &Plan) -> Floor<Finder>
-    ensures { result ≡ empty_floor map plan.now.finder }
-{
-    let Opened { floor, verdict: _ } = match &plan.named {
-        Named::ByRows(rows) => open_checked(map, plan.finder, rows),
-        Named::ByTree(tree) => open_checked(map, plan.finder, tree),
-        Named::ByFile(file) => open_checked(map, plan.finder, file),
-    };
-    floor
+    check(map, &plan.finder, &plan.named)
 }
 
 fn told(verdict: Result<Pass, RouteRefusal>) -> Outcome
@@ -121,17 +103,11 @@ impl Store {
     }
 
     /// Makes the call; where something it needs is missing, nothing changes.
-    pub(crate) fn make(
-        &mut self,
-        call: Call,
-        file: Option<&[u8]>,
-        buffer: &mut [u8],
-    ) -> Result<Outcome, Wrong>
-        ensures answer { result ≡ answer_of self.old call (bytes_in file.entry) buffer.old }
+    pub(crate) fn make(&mut self, call: Call) -> Result<Outcome, Wrong>
+        ensures answer { result ≡ answer_of self.old call }
         ensures map { map_of self.new.map ≡ later_map (map_of self.old.map) call }
-        ensures plan { PlanLater self.old call (bytes_in file.entry) self.new.plan }
+        ensures plan { PlanLater self.old call self.new.plan }
         ensures floor { self.new.floor ≡ later_floor self.old call }
-        ensures buffer { buffer.new ≡ later_buffer self.old call buffer.old }
     {
         match call {
             Call::MakeMap(width, height) => Ok(self.make_map(width, height)),
@@ -140,10 +116,9 @@ impl Store {
                 None => Err(Wrong::NoMap),
                 Some(_) => Ok(Outcome::Drawn),
             },
-            Call::ChoosePlan(kind) => self.choose_plan(kind, file),
+            Call::ChoosePlan(kind) => self.choose_plan(kind),
             Call::AddDetour => self.add_detour(),
             Call::ChangeVias(change) => self.change_vias(change),
-            Call::WritePlan => self.write_plan(buffer),
             Call::CheckPlan => self.check_plan(),
             Call::OpenFloor => self.open_floor(),
             Call::UseFloor(asked) => self.use_floor(asked),
@@ -188,10 +163,10 @@ impl Store {
         }
     }
 
-    fn choose_plan(&mut self, kind: PlanKind, file: Option<&[u8]>) -> Result<Outcome, Wrong>
-        ensures answer { result ≡ plan_answer (map_of self.old.map) kind (bytes_in file.entry) }
+    fn choose_plan(&mut self, kind: PlanKind) -> Result<Outcome, Wrong>
+        ensures answer { result ≡ plan_answer (map_of self.old.map) kind }
         ensures map { map_of self.new.map ≡ map_of self.old.map }
-        ensures plan { Chosen (map_of self.old.map) kind (bytes_in file.entry) self.old.plan self.new.plan }
+        ensures plan { Chosen (map_of self.old.map) kind self.old.plan self.new.plan }
         ensures floor { self.new.floor ≡ self.old.floor }
     {
         let named = match kind {
@@ -202,49 +177,9 @@ impl Store {
                 };
                 Named::ByTree(Tree::new(&map))
             }
-            PlanKind::File => {
-                let Some(bytes) = file else {
-                    return Err(Wrong::Unreadable);
-                };
-                return Ok(self.read_plan(bytes));
-            }
         };
         self.plan = Some(Plan::of(named));
         Ok(Outcome::Done)
-    }
-
-    /// The plan is the one in the bytes, where these are a plan's.
-    fn read_plan(&mut self, bytes: &[u8]) -> Outcome
-        ensures answer { result ≡ read_answer bytes.now }
-        ensures map { map_of self.new.map ≡ map_of self.old.map }
-        ensures plan { ReadIn bytes.now self.old.plan self.new.plan }
-        ensures floor { self.new.floor ≡ self.old.floor }
-    {
-        match WrittenPlan::read(bytes) {
-            Ok(written) => {
-                self.plan = Some(Plan::of(Named::ByFile(written.keep())));
-                Outcome::Done
-            }
-            Err(refusal) => Outcome::Refused(Refused::ByFile(refusal)),
-        }
-    }
-
-    /// Writes the plan on the map as they are now into the buffer.
-    fn write_plan(&self, buffer: &mut [u8]) -> Result<Outcome, Wrong>
-        ensures answer { result ≡ write_answer (map_of self.now.map) self.now.plan buffer.old }
-        ensures buffer { buffer.new ≡ written_in (map_of self.now.map) self.now.plan buffer.old }
-    {
-        let Some(map) = self.map.as_ref() else {
-            return Err(Wrong::NoMap);
-        };
-        let Some(plan) = self.plan.as_ref() else {
-            return Err(Wrong::NoPlan);
-        };
-        let keys = plan.named.key_numbers();
-        match write(map, &plan.finder, &keys, buffer) {
-            Ok(length) => Ok(Outcome::Written(length)),
-            Err(refusal) => Ok(Outcome::Refused(Refused::ByFile(refusal))),
-        }
     }
 
     fn add_detour(&mut self) -> Result<Outcome, Wrong>
@@ -315,7 +250,8 @@ impl Store {
         let Some(plan) = self.plan else {
             return Err(Wrong::NoPlan);
         };
-        self.floor = Some(opened(map, &plan));
+        let Opened { floor, verdict: _ } = open_checked(map, plan.finder, &plan.named);
+        self.floor = Some(floor);
         Ok(Outcome::Done)
     }
 

@@ -8,7 +8,7 @@ use Rattle.check.specs.declared.pass.Pass.{Pass}
 use Rattle.trays.specs.Outcomes.{counts_outcome}
 use Rattle.floor.specs.declared.floor.Floor.{Floor}
 use Rattle.engine.specs.declared.finder.Named.{Named}
-use Rattle.engine.specs.declared.finder.Named.TheVariants.{ByRows, ByTree, ByFile}
+use Rattle.engine.specs.declared.finder.Named.TheVariants.{ByRows, ByTree}
 use Rattle.engine.specs.declared.finder.Finder.{Finder}
 use Rattle.engine.specs.declared.finder.Finder.TheVariants.{Bare, Once, Twice, Thrice}
 use Rattle.engine.specs.declared.plan.Plan.{Plan}
@@ -46,8 +46,6 @@ name_text (ByRows w) false = codes "row-first"
 name_text (ByRows w) true = codes "row-first with detour"
 name_text (ByTree w) false = codes "tree"
 name_text (ByTree w) true = codes "tree with detour"
-name_text (ByFile w) false = codes "file"
-name_text (ByFile w) true = codes "file with detour"
 
 -- what the check said of the map and the plan as they are now
 abbrev pub said_of : Option (Result Pass Refusal) → Said

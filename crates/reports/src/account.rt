@@ -103,8 +103,8 @@ impl fmt::Display for Figures {
     }
 }
 
-fn has_detour(finder: &Finder) -> bool
-    ensures { result ≡ has_detour finder.now }
+fn has_detour(finder: Finder) -> bool
+    ensures { result ≡ has_detour finder }
 {
     match finder {
         Finder::Bare(_) => false,
@@ -112,8 +112,8 @@ fn has_detour(finder: &Finder) -> bool
     }
 }
 
-fn name_of(named: &Named, detour: bool) -> &'static str
-    ensures { result.now ≡ name_text named.now detour }
+fn name_of(named: Named, detour: bool) -> &'static str
+    ensures { result.now ≡ name_text named detour }
 {
     match named {
         Named::ByRows(_) => {
@@ -124,7 +124,6 @@ fn name_of(named: &Named, detour: bool) -> &'static str
             }
         }
         Named::ByTree(_) => { if detour { "tree with detour" } else { "tree" } }
-        Named::ByFile(_) => { if detour { "file with detour" } else { "file" } }
     }
 }
 
@@ -135,7 +134,7 @@ impl fmt::Display for PlanTold<'_> {
         match self.0 {
             None => write!(f, "none"),
             Some(plan) => {
-                let name = name_of(&plan.named, has_detour(&plan.finder));
+                let name = name_of(plan.named, has_detour(plan.finder));
                 let said = said_of(plan.verdict);
                 write!(f, "{name}: {said}")
             }

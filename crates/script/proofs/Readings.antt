@@ -9,7 +9,7 @@ use Rattle.script.specs.declared.verb.Kind.{Kind}
 use Rattle.script.specs.declared.parts.Part.{Part}
 use Rattle.script.specs.Verbs.{verb_of, kind_of, plan_named}
 use Rattle.script.specs.Calls.{call_by, call_from, call_of}
-use Rattle.script.specs.Parts.{texts, table_of, into, then, behind_plan, both_tables, two_tables, three_tables, part_by, part_of, plan_by, plan_of}
+use Rattle.script.specs.Parts.{texts, table_of, into, then, nothing, both_tables, two_tables, three_tables, part_by, part_of, plan_by, plan_of}
 use Rattle.script.proofs.Words.{Word, word_at, rest, first_word, two_words, three_words}
 
 pub both_read : (d : Word) (ws : List Word) (p q : Result ℕ Fault) → length ws ≡ 2 → p ≡ table_of (word_at ws 0 d) → q ≡ table_of (word_at ws 1 d)
@@ -30,9 +30,9 @@ first_of_three_fails d ws x n e = all_read d ws (Err x) (table_of (word_at ws 1 
 pub second_of_three_fails : (d : Word) (ws : List Word) (y : ℕ) (x : Fault) → length ws ≡ 3 → Ok y ≡ table_of (word_at ws 0 d) → Err x ≡ table_of (word_at ws 1 d) → Err x ≡ three_tables (texts ws)
 second_of_three_fails d ws y x n e f = all_read d ws (Ok y) (Err x) (table_of (word_at ws 2 d)) n e f refl
 
--- a plan by its kind and what follows it
+-- a plan by its name, where nothing follows it
 pub plan_read : (d : Word) (ws : List Word) (p : PlanKind) (r : Result (Unit {0}) Fault) → 1 ≤ length ws → Some p ≡ plan_named (word_at ws 0 d)
-    → r ≡ behind_plan p (texts (rest ws)) → into (λ _. p) r ≡ plan_of (texts ws)
+    → r ≡ nothing (texts (rest ws)) → into (λ _. p) r ≡ plan_of (texts ws)
 plan_read d ws p r n e f = rw (first_word d ws n) (ap (into (λ _. p)) f ∙ ap (λ o. plan_by o (texts (rest ws))) e)
 
 pub part_read : (d : Word) (ws : List Word) (k j : Kind) (r : Result Part Fault) → 1 ≤ length ws → Some k ≡ kind_of (word_at ws 0 d) → k ≡ j

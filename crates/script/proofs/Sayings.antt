@@ -5,10 +5,10 @@ use Rattle.std.proofs.lemmas.Fmt.{decimal_by_steps, decimal_nonempty}
 use Rattle.std.proofs.lemmas.Bool.{le-leb, cond-true}
 use Rattle.std.proofs.lemmas.Bool.Decides.{nat_tests}
 use Rattle.script.specs.declared.call.Call.{Call}
-use Rattle.script.specs.declared.call.Call.TheVariants.{MakeMap, ChangeMap, DrawMap, ChoosePlan, AddDetour, ChangeVias, WritePlan, CheckPlan, OpenFloor, UseFloor}
+use Rattle.script.specs.declared.call.Call.TheVariants.{MakeMap, ChangeMap, DrawMap, ChoosePlan, AddDetour, ChangeVias, CheckPlan, OpenFloor, UseFloor}
 use Rattle.script.specs.declared.call.Change.{Change}
 use Rattle.script.specs.declared.call.Change.TheVariants.{MarkStop, UnmarkStop, CloseTable, ReopenTable, CloseSegment, ReopenSegment}
-use Rattle.script.specs.declared.call.PlanKind.TheVariants.{RowFirst, Tree, File}
+use Rattle.script.specs.declared.call.PlanKind.TheVariants.{RowFirst, Tree}
 use Rattle.script.specs.declared.call.ViaChange.TheVariants.{AddVia, RemoveVia}
 use Rattle.script.specs.declared.call.FloorUse.TheVariants.{EnterTray, AdvanceTray, CountLeft, LookAt, TellCounts}
 use Rattle.script.specs.Numbers.{read_on, number_of, up_to, number_up_to}
@@ -58,25 +58,23 @@ segment_back : (n : ℕ) → n < 65536 → segment_of (decimal n) ≡ Ok n
 segment_back n h = reads_back 65535 n (omega arith) (omega arith)
 
 pub every_call_can_be_said : EveryCallCanBeSaid
-every_call_can_be_said name (MakeMap w h) r = rw (table_back w r.0, table_back h r.1)
-every_call_can_be_said name (ChangeMap (MarkStop t)) r = rw (table_back t r)
-every_call_can_be_said name (ChangeMap (UnmarkStop t)) r = rw (table_back t r)
-every_call_can_be_said name (ChangeMap (CloseTable t)) r = rw (table_back t r)
-every_call_can_be_said name (ChangeMap (ReopenTable t)) r = rw (table_back t r)
-every_call_can_be_said name (ChangeMap (CloseSegment n)) r = rw (segment_back n r)
-every_call_can_be_said name (ChangeMap (ReopenSegment n)) r = rw (segment_back n r)
-every_call_can_be_said name DrawMap r = refl
-every_call_can_be_said name (ChoosePlan RowFirst) r = refl
-every_call_can_be_said name (ChoosePlan Tree) r = refl
-every_call_can_be_said name (ChoosePlan File) r = refl
-every_call_can_be_said name AddDetour r = refl
-every_call_can_be_said name (ChangeVias (AddVia o d v)) r = rw (table_back o r.0, table_back d r.1, table_back v r.2)
-every_call_can_be_said name (ChangeVias (RemoveVia o d)) r = rw (table_back o r.0, table_back d r.1)
-every_call_can_be_said name WritePlan r = refl
-every_call_can_be_said name CheckPlan r = refl
-every_call_can_be_said name OpenFloor r = refl
-every_call_can_be_said name (UseFloor (EnterTray o d)) r = rw (table_back o r.0, table_back d r.1)
-every_call_can_be_said name (UseFloor (AdvanceTray n)) r = rw (segment_back n r)
-every_call_can_be_said name (UseFloor (CountLeft n)) r = rw (segment_back n r)
-every_call_can_be_said name (UseFloor (LookAt n)) r = rw (segment_back n r)
-every_call_can_be_said name (UseFloor TellCounts) r = refl
+every_call_can_be_said (MakeMap w h) r = rw (table_back w r.0, table_back h r.1)
+every_call_can_be_said (ChangeMap (MarkStop t)) r = rw (table_back t r)
+every_call_can_be_said (ChangeMap (UnmarkStop t)) r = rw (table_back t r)
+every_call_can_be_said (ChangeMap (CloseTable t)) r = rw (table_back t r)
+every_call_can_be_said (ChangeMap (ReopenTable t)) r = rw (table_back t r)
+every_call_can_be_said (ChangeMap (CloseSegment n)) r = rw (segment_back n r)
+every_call_can_be_said (ChangeMap (ReopenSegment n)) r = rw (segment_back n r)
+every_call_can_be_said DrawMap r = refl
+every_call_can_be_said (ChoosePlan RowFirst) r = refl
+every_call_can_be_said (ChoosePlan Tree) r = refl
+every_call_can_be_said AddDetour r = refl
+every_call_can_be_said (ChangeVias (AddVia o d v)) r = rw (table_back o r.0, table_back d r.1, table_back v r.2)
+every_call_can_be_said (ChangeVias (RemoveVia o d)) r = rw (table_back o r.0, table_back d r.1)
+every_call_can_be_said CheckPlan r = refl
+every_call_can_be_said OpenFloor r = refl
+every_call_can_be_said (UseFloor (EnterTray o d)) r = rw (table_back o r.0, table_back d r.1)
+every_call_can_be_said (UseFloor (AdvanceTray n)) r = rw (segment_back n r)
+every_call_can_be_said (UseFloor (CountLeft n)) r = rw (segment_back n r)
+every_call_can_be_said (UseFloor (LookAt n)) r = rw (segment_back n r)
+every_call_can_be_said (UseFloor TellCounts) r = refl

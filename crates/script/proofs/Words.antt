@@ -62,12 +62,6 @@ pub not_none : {B : Type 0} (r : Result B Fault) (ws : List Word) → (length ws
 not_none r [] h = elim (h refl) [ ]
 not_none r (w ∷ ws) h = refl
 
--- where any word will do
-pub is_one : {B : Type 0} (r : Result B Fault) (ws : List Word) → length ws ≡ 1 → with_one (λ _. r) (texts ws) ≡ r
-is_one r [] e = absurd (omega arith)
-is_one r (w ∷ []) e = refl
-is_one r (w ∷ v ∷ ws) e = absurd (omega arith)
-
 pub not_one : {B : Type 0} (f : List ℕ → Result B Fault) (ws : List Word) → (length ws ≡ 1 → ⊥) → with_one f (texts ws) ≡ Err WrongWords
 not_one f [] h = refl
 not_one f (w ∷ ws) h = not_none (f w.now) ws (λ e. h (ap suc e))

@@ -1,7 +1,7 @@
 -- Which call the words of a line make.
 use Rattle.std.specs.Prelude.{ℕ, List, [], ◌∷◌, Some, None, Ok, Err, Option, Result}
 use Rattle.script.specs.declared.call.Call.{Call}
-use Rattle.script.specs.declared.call.Call.TheVariants.{MakeMap, ChangeMap, DrawMap, ChoosePlan, AddDetour, ChangeVias, WritePlan, CheckPlan, OpenFloor, UseFloor}
+use Rattle.script.specs.declared.call.Call.TheVariants.{MakeMap, ChangeMap, DrawMap, ChoosePlan, AddDetour, ChangeVias, CheckPlan, OpenFloor, UseFloor}
 use Rattle.script.specs.declared.call.Change.{Change}
 use Rattle.script.specs.declared.call.Change.TheVariants.{MarkStop, UnmarkStop, CloseTable, ReopenTable, CloseSegment, ReopenSegment}
 use Rattle.script.specs.declared.call.ViaChange.TheVariants.{AddVia, RemoveVia}
@@ -9,11 +9,11 @@ use Rattle.script.specs.declared.call.FloorUse.TheVariants.{EnterTray, AdvanceTr
 use Rattle.script.specs.declared.call.Fault.{Fault}
 use Rattle.script.specs.declared.call.Fault.TheVariants.{NoSuchCall}
 use Rattle.script.specs.declared.verb.Verb.{Verb}
-use Rattle.script.specs.declared.verb.Verb.TheVariants.{Map, Stop, Unmark, Close, Reopen, Draw, Plan, Detour, Via, Unvia, Write, Check, Open, Enter, Advance, Left, Look, Counts}
+use Rattle.script.specs.declared.verb.Verb.TheVariants.{Map, Stop, Unmark, Close, Reopen, Draw, Plan, Detour, Via, Unvia, Check, Open, Enter, Advance, Left, Look, Counts}
 use Rattle.script.specs.declared.parts.Part.{Part}
 use Rattle.script.specs.declared.parts.Part.TheVariants.{ATable, ASegment}
 use Rattle.script.specs.Verbs.{verb_of}
-use Rattle.script.specs.Parts.{into, nothing, one_name, one_table, two_tables, three_tables, one_segment, part_of, plan_of}
+use Rattle.script.specs.Parts.{into, nothing, one_table, two_tables, three_tables, one_segment, part_of, plan_of}
 
 abbrev pub closing : Part → Change
 closing (ATable t) = CloseTable t
@@ -35,7 +35,6 @@ call_by Plan ws = into ChoosePlan (plan_of ws)
 call_by Detour ws = into (λ _. AddDetour) (nothing ws)
 call_by Via ws = into (λ p. ChangeVias (AddVia p.0 p.1 p.2)) (three_tables ws)
 call_by Unvia ws = into (λ p. ChangeVias (RemoveVia p.0 p.1)) (two_tables ws)
-call_by Write ws = into (λ _. WritePlan) (one_name ws)
 call_by Check ws = into (λ _. CheckPlan) (nothing ws)
 call_by Open ws = into (λ _. OpenFloor) (nothing ws)
 call_by Enter ws = into (λ p. UseFloor (EnterTray p.0 p.1)) (two_tables ws)

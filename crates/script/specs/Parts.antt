@@ -8,7 +8,6 @@ use Rattle.script.specs.declared.verb.Kind.TheVariants.{Table, Segment}
 use Rattle.script.specs.declared.parts.Part.{Part}
 use Rattle.script.specs.declared.parts.Part.TheVariants.{ATable, ASegment}
 use Rattle.script.specs.declared.call.PlanKind.{PlanKind}
-use Rattle.script.specs.declared.call.PlanKind.TheVariants.{RowFirst, Tree, File}
 use Rattle.script.specs.Verbs.{kind_of, plan_named}
 use Rattle.script.specs.Numbers.{number_up_to}
 
@@ -59,10 +58,6 @@ all_tables u v w = then (table_of u) (λ x. then (table_of v) (λ y. into (λ z.
 abbrev pub nothing : List (List ℕ) → Result (Unit {0}) Fault
 nothing ws = with_none (Ok tt) ws
 
--- any word names a file
-abbrev pub one_name : List (List ℕ) → Result (Unit {0}) Fault
-one_name ws = with_one (λ _. Ok tt) ws
-
 abbrev pub one_table : List (List ℕ) → Result ℕ Fault
 one_table ws = with_one table_of ws
 
@@ -85,17 +80,11 @@ abbrev pub part_of : List (List ℕ) → Result Part Fault
 part_of [] = Err WrongWords
 part_of (k ∷ ws) = part_by (kind_of k) ws
 
--- what follows a plan's kind
-abbrev pub behind_plan : PlanKind → List (List ℕ) → Result (Unit {0}) Fault
-behind_plan RowFirst ws = nothing ws
-behind_plan Tree ws = nothing ws
-behind_plan File ws = one_name ws
-
 abbrev pub plan_by : Option PlanKind → List (List ℕ) → Result PlanKind Fault
 plan_by None ws = Err NoSuchCall
-plan_by (Some p) ws = into (λ _. p) (behind_plan p ws)
+plan_by (Some p) ws = into (λ _. p) (nothing ws)
 
--- a plan, by its kind and, where it is a written one, its file's name
+-- a plan, by its name alone
 abbrev pub plan_of : List (List ℕ) → Result PlanKind Fault
 plan_of [] = Err WrongWords
 plan_of (k ∷ ws) = plan_by (plan_named k) ws

@@ -1,9 +1,9 @@
 -- The words that a line can begin with, and what they stand for.
 use Rattle.std.specs.Prelude.{ℕ, Bool, true, false, cond, ◌&&◌, List, [], ◌∷◌, Some, None, codes, Option, ◌==◌}
 use Rattle.script.specs.declared.verb.Verb.{Verb}
-use Rattle.script.specs.declared.verb.Verb.TheVariants.{Map, Stop, Unmark, Close, Reopen, Draw, Plan, Detour, Via, Unvia, Write, Check, Open, Enter, Advance, Left, Look, Counts}
+use Rattle.script.specs.declared.verb.Verb.TheVariants.{Map, Stop, Unmark, Close, Reopen, Draw, Plan, Detour, Via, Unvia, Check, Open, Enter, Advance, Left, Look, Counts}
 use Rattle.script.specs.declared.call.PlanKind.{PlanKind}
-use Rattle.script.specs.declared.call.PlanKind.TheVariants.{RowFirst, Tree, File}
+use Rattle.script.specs.declared.call.PlanKind.TheVariants.{RowFirst, Tree}
 use Rattle.script.specs.declared.verb.Kind.{Kind}
 use Rattle.script.specs.declared.verb.Kind.TheVariants.{Table, Segment}
 
@@ -27,14 +27,13 @@ verb_of w =
     (cond (same_text w (codes "detour")) (Some Detour)
     (cond (same_text w (codes "via")) (Some Via)
     (cond (same_text w (codes "unvia")) (Some Unvia)
-    (cond (same_text w (codes "write")) (Some Write)
     (cond (same_text w (codes "check")) (Some Check)
     (cond (same_text w (codes "open")) (Some Open)
     (cond (same_text w (codes "enter")) (Some Enter)
     (cond (same_text w (codes "advance")) (Some Advance)
     (cond (same_text w (codes "left")) (Some Left)
     (cond (same_text w (codes "look")) (Some Look)
-    (cond (same_text w (codes "counts")) (Some Counts) None)))))))))))))))))
+    (cond (same_text w (codes "counts")) (Some Counts) None))))))))))))))))
 
 -- what is closed or reopened is a table or a segment
 abbrev pub kind_of : List ℕ → Option Kind
@@ -42,9 +41,8 @@ kind_of w =
     cond (same_text w (codes "table")) (Some Table)
     (cond (same_text w (codes "segment")) (Some Segment) None)
 
--- the kinds of plan
+-- the plans that have names
 abbrev pub plan_named : List ℕ → Option PlanKind
 plan_named w =
     cond (same_text w (codes "row-first")) (Some RowFirst)
-    (cond (same_text w (codes "tree")) (Some Tree)
-    (cond (same_text w (codes "file")) (Some File) None))
+    (cond (same_text w (codes "tree")) (Some Tree) None)

@@ -1,38 +1,35 @@
 -- Every call can be said: its wording, with its numbers in decimal digits, reads as that call.
 use Rattle.std.specs.Prelude.{◌≡◌, ℕ, ◌<◌, List, [], ◌∷◌, Ok, codes, decimal}
 use Rattle.script.specs.declared.call.Call.{Call}
-use Rattle.script.specs.declared.call.Call.TheVariants.{MakeMap, ChangeMap, DrawMap, ChoosePlan, AddDetour, ChangeVias, WritePlan, CheckPlan, OpenFloor, UseFloor}
+use Rattle.script.specs.declared.call.Call.TheVariants.{MakeMap, ChangeMap, DrawMap, ChoosePlan, AddDetour, ChangeVias, CheckPlan, OpenFloor, UseFloor}
 use Rattle.script.specs.declared.call.Change.{Change}
 use Rattle.script.specs.declared.call.Change.TheVariants.{MarkStop, UnmarkStop, CloseTable, ReopenTable, CloseSegment, ReopenSegment}
-use Rattle.script.specs.declared.call.PlanKind.TheVariants.{RowFirst, Tree, File}
+use Rattle.script.specs.declared.call.PlanKind.TheVariants.{RowFirst, Tree}
 use Rattle.script.specs.declared.call.ViaChange.TheVariants.{AddVia, RemoveVia}
 use Rattle.script.specs.declared.call.FloorUse.TheVariants.{EnterTray, AdvanceTray, CountLeft, LookAt, TellCounts}
 use Rattle.script.specs.Calls.{call_of}
 
--- the words of a call, with this name where it is about a file
-abbrev pub wording : List ℕ → Call → List (List ℕ)
-wording name (MakeMap w h) = codes "map" ∷ decimal w ∷ decimal h ∷ []
-wording name (ChangeMap (MarkStop t)) = codes "stop" ∷ decimal t ∷ []
-wording name (ChangeMap (UnmarkStop t)) = codes "unmark" ∷ decimal t ∷ []
-wording name (ChangeMap (CloseTable t)) = codes "close" ∷ codes "table" ∷ decimal t ∷ []
-wording name (ChangeMap (ReopenTable t)) = codes "reopen" ∷ codes "table" ∷ decimal t ∷ []
-wording name (ChangeMap (CloseSegment n)) = codes "close" ∷ codes "segment" ∷ decimal n ∷ []
-wording name (ChangeMap (ReopenSegment n)) = codes "reopen" ∷ codes "segment" ∷ decimal n ∷ []
-wording name DrawMap = codes "draw" ∷ []
-wording name (ChoosePlan RowFirst) = codes "plan" ∷ codes "row-first" ∷ []
-wording name (ChoosePlan Tree) = codes "plan" ∷ codes "tree" ∷ []
-wording name (ChoosePlan File) = codes "plan" ∷ codes "file" ∷ name ∷ []
-wording name AddDetour = codes "detour" ∷ []
-wording name (ChangeVias (AddVia o d v)) = codes "via" ∷ decimal o ∷ decimal d ∷ decimal v ∷ []
-wording name (ChangeVias (RemoveVia o d)) = codes "unvia" ∷ decimal o ∷ decimal d ∷ []
-wording name WritePlan = codes "write" ∷ name ∷ []
-wording name CheckPlan = codes "check" ∷ []
-wording name OpenFloor = codes "open" ∷ []
-wording name (UseFloor (EnterTray o d)) = codes "enter" ∷ decimal o ∷ decimal d ∷ []
-wording name (UseFloor (AdvanceTray n)) = codes "advance" ∷ decimal n ∷ []
-wording name (UseFloor (CountLeft n)) = codes "left" ∷ decimal n ∷ []
-wording name (UseFloor (LookAt n)) = codes "look" ∷ decimal n ∷ []
-wording name (UseFloor TellCounts) = codes "counts" ∷ []
+abbrev pub wording : Call → List (List ℕ)
+wording (MakeMap w h) = codes "map" ∷ decimal w ∷ decimal h ∷ []
+wording (ChangeMap (MarkStop t)) = codes "stop" ∷ decimal t ∷ []
+wording (ChangeMap (UnmarkStop t)) = codes "unmark" ∷ decimal t ∷ []
+wording (ChangeMap (CloseTable t)) = codes "close" ∷ codes "table" ∷ decimal t ∷ []
+wording (ChangeMap (ReopenTable t)) = codes "reopen" ∷ codes "table" ∷ decimal t ∷ []
+wording (ChangeMap (CloseSegment n)) = codes "close" ∷ codes "segment" ∷ decimal n ∷ []
+wording (ChangeMap (ReopenSegment n)) = codes "reopen" ∷ codes "segment" ∷ decimal n ∷ []
+wording DrawMap = codes "draw" ∷ []
+wording (ChoosePlan RowFirst) = codes "plan" ∷ codes "row-first" ∷ []
+wording (ChoosePlan Tree) = codes "plan" ∷ codes "tree" ∷ []
+wording AddDetour = codes "detour" ∷ []
+wording (ChangeVias (AddVia o d v)) = codes "via" ∷ decimal o ∷ decimal d ∷ decimal v ∷ []
+wording (ChangeVias (RemoveVia o d)) = codes "unvia" ∷ decimal o ∷ decimal d ∷ []
+wording CheckPlan = codes "check" ∷ []
+wording OpenFloor = codes "open" ∷ []
+wording (UseFloor (EnterTray o d)) = codes "enter" ∷ decimal o ∷ decimal d ∷ []
+wording (UseFloor (AdvanceTray n)) = codes "advance" ∷ decimal n ∷ []
+wording (UseFloor (CountLeft n)) = codes "left" ∷ decimal n ∷ []
+wording (UseFloor (LookAt n)) = codes "look" ∷ decimal n ∷ []
+wording (UseFloor TellCounts) = codes "counts" ∷ []
 
 -- the numbers of a call fit their types
 abbrev pub InRange : Call → Type 0
@@ -48,7 +45,6 @@ InRange (ChoosePlan p) = Unit {0}
 InRange AddDetour = Unit {0}
 InRange (ChangeVias (AddVia o d v)) = (o < 256) × (d < 256) × (v < 256)
 InRange (ChangeVias (RemoveVia o d)) = (o < 256) × (d < 256)
-InRange WritePlan = Unit {0}
 InRange CheckPlan = Unit {0}
 InRange OpenFloor = Unit {0}
 InRange (UseFloor (EnterTray o d)) = (o < 256) × (d < 256)
@@ -58,4 +54,4 @@ InRange (UseFloor (LookAt n)) = n < 65536
 InRange (UseFloor TellCounts) = Unit {0}
 
 abbrev pub EveryCallCanBeSaid : Type 0
-EveryCallCanBeSaid = (name : List ℕ) (c : Call) → InRange c → call_of (wording name c) ≡ Ok c
+EveryCallCanBeSaid = (c : Call) → InRange c → call_of (wording c) ≡ Ok c

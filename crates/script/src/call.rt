@@ -1,5 +1,5 @@
 /// What a line asks for.
-#[derive(Clone, Copy)]
+#[derive(Clone, Copy, PartialEq, Eq, Debug)]
 pub enum Call {
     MakeMap(u8, u8),
     ChangeMap(Change),
@@ -7,15 +7,13 @@ pub enum Call {
     ChoosePlan(PlanKind),
     AddDetour,
     ChangeVias(ViaChange),
-    /// Into the file that the last word names.
-    WritePlan,
     CheckPlan,
     OpenFloor,
     UseFloor(FloorUse),
 }
 
 /// A change of the map that is there.
-#[derive(Clone, Copy)]
+#[derive(Clone, Copy, PartialEq, Eq, Debug)]
 pub enum Change {
     MarkStop(u8),
     UnmarkStop(u8),
@@ -25,24 +23,22 @@ pub enum Change {
     ReopenSegment(u16),
 }
 
-/// Which plan.
-#[derive(Clone, Copy)]
+/// The plans that can be named.
+#[derive(Clone, Copy, PartialEq, Eq, Debug)]
 pub enum PlanKind {
     RowFirst,
     Tree,
-    /// The written plan in the file that the last word names.
-    File,
 }
 
 /// A change of the detour that is there: origin, destination and, where one is added, the via.
-#[derive(Clone, Copy)]
+#[derive(Clone, Copy, PartialEq, Eq, Debug)]
 pub enum ViaChange {
     AddVia(u8, u8, u8),
     RemoveVia(u8, u8),
 }
 
 /// A call of the floor that is open.
-#[derive(Clone, Copy)]
+#[derive(Clone, Copy, PartialEq, Eq, Debug)]
 pub enum FloorUse {
     /// From an origin to a destination.
     EnterTray(u8, u8),
@@ -53,7 +49,7 @@ pub enum FloorUse {
 }
 
 /// Why a line is no call.
-#[derive(Clone, Copy)]
+#[derive(Clone, Copy, PartialEq, Eq, Debug)]
 pub enum Fault {
     NoSuchCall,
     WrongWords,

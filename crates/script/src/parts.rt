@@ -1,5 +1,5 @@
 ghost use Rattle.std.specs.Prelude.{◌≡◌};
-ghost use Rattle.script.specs.Parts.{texts, table_of, one_table, two_tables, three_tables, one_segment, part_of, plan_of, nothing, one_name, behind_plan};
+ghost use Rattle.script.specs.Parts.{texts, table_of, one_table, two_tables, three_tables, one_segment, part_of, plan_of, nothing};
 
 use crate::call::{Fault, PlanKind};
 use crate::number::read_number;
@@ -81,27 +81,6 @@ pub(crate) fn read_part(words: &[&str]) -> Result<Part, Fault>
     }
 }
 
-/// One word, which names a file.
-pub(crate) fn read_name(words: &[&str]) -> Result<(), Fault>
-    ensures { result ≡ one_name (texts words.now) }
-{
-    if words.len() == 1 {
-        Ok(())
-    } else {
-        Err(Fault::WrongWords)
-    }
-}
-
-/// What follows a plan's kind: a file's name, or nothing.
-fn read_behind(plan: PlanKind, words: &[&str]) -> Result<(), Fault>
-    ensures { result ≡ behind_plan plan (texts words.now) }
-{
-    match plan {
-        PlanKind::RowFirst | PlanKind::Tree => read_nothing(words),
-        PlanKind::File => read_name(words),
-    }
-}
-
 pub(crate) fn read_plan(words: &[&str]) -> Result<PlanKind, Fault>
     ensures { result ≡ plan_of (texts words.now) }
 {
@@ -111,6 +90,6 @@ pub(crate) fn read_plan(words: &[&str]) -> Result<PlanKind, Fault>
     let Some(plan) = PlanKind::read(first) else {
         return Err(Fault::NoSuchCall);
     };
-    read_behind(plan, rest)?;
+    read_nothing(rest)?;
     Ok(plan)
 }

@@ -5,8 +5,8 @@ ghost use Rattle.script.specs.Calls.{call_of, call_by, closing, reopening};
 
 use crate::call::{Call, Change, Fault, FloorUse, ViaChange};
 use crate::parts::{
-    Part, read_name, read_nothing, read_one_segment, read_one_table, read_part, read_plan,
-    read_three_tables, read_two_tables,
+    Part, read_nothing, read_one_segment, read_one_table, read_part, read_plan, read_three_tables,
+    read_two_tables,
 };
 use crate::verb::Verb;
 
@@ -60,10 +60,6 @@ impl Verb {
             Verb::Unvia => {
                 let (origin, destination) = read_two_tables(words)?;
                 Ok(Call::ChangeVias(ViaChange::RemoveVia(origin, destination)))
-            }
-            Verb::Write => {
-                read_name(words)?;
-                Ok(Call::WritePlan)
             }
             Verb::Check => {
                 read_nothing(words)?;

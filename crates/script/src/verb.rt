@@ -16,7 +16,6 @@ pub(crate) enum Verb {
     Detour,
     Via,
     Unvia,
-    Write,
     Check,
     Open,
     Enter,
@@ -48,7 +47,6 @@ impl Verb {
             "detour" => Some(Verb::Detour),
             "via" => Some(Verb::Via),
             "unvia" => Some(Verb::Unvia),
-            "write" => Some(Verb::Write),
             "check" => Some(Verb::Check),
             "open" => Some(Verb::Open),
             "enter" => Some(Verb::Enter),
@@ -80,7 +78,6 @@ impl PlanKind {
         match word {
             "row-first" => Some(PlanKind::RowFirst),
             "tree" => Some(PlanKind::Tree),
-            "file" => Some(PlanKind::File),
             _ => None,
         }
     }

@@ -4,31 +4,26 @@ use engine::outcome::Outcome;
 use engine::session::Session;
 use reports::account::Account;
 use reports::picture::Picture;
-use script::call::Call;
-use std::alloc::AllocError;
+use std::alloc::{AllocError, Global};
 use std::{env, fs, io};
 
-mod files;
 mod words;
 
 use words::{joined, words_of};
 
 /// Makes the call on the line, and answers what is printed for it.
 fn told(
-    rt: &HostRuntime,
+    heap: Global,
     session: &mut Session,
     number: u64,
     line: &str,
 ) -> Result<String, AllocError> {
-    let heap = rt.alloc();
     let words = words_of(heap, line)?;
-    let Some(last) = words.last() else {
+    if words.is_empty() {
         return Ok(String::new(heap));
-    };
+    }
     let said = joined(heap, words.as_slice())?;
-    let answer = files::make(rt, session, Call::read(words.as_slice()), last)?;
-    session.count(answer);
-    match answer {
+    match session.make(words.as_slice()) {
         Ok(Outcome::Drawn) => {
             let picture = Picture(session);
             format!(in heap; "{said} -> ok\n{picture}")
@@ -43,7 +38,7 @@ fn run(rt: &HostRuntime, script: &str) -> anyhow::Result<()> {
     let mut number: u64 = 0;
     for line in script.lines() {
         number = number.saturating_add(1);
-        rt.print(told(rt, &mut session, number, line)?)?;
+        rt.print(told(rt.alloc(), &mut session, number, line)?)?;
     }
     rt.print(Account(&session))?;
     Ok(())

@@ -1,7 +1,7 @@
 use Rattle.std.proofs.Common.{◌∙◌, arith}
 use Rattle.planfile.specs.Plans.{key_in}
 use Rattle.std.proofs.lemmas.List.{length-set}
-use Rattle.planfile.proofs.Fills.{fill_more}
+use Rattle.planwriter.proofs.Pieces.{fill_more}
 use Rattle.planwriter.proofs.Again.{keys_are}
 use Rattle.planwriter.proofs.rewrite.keys_of.Goals as goal
 

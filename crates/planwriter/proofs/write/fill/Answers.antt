@@ -2,8 +2,7 @@ use Rattle.std.proofs.Common.{◌≡◌, length, sym, ap, ◌∙◌, arith, leng
 use Rattle.map.specs.Layouts.{layout}
 use Rattle.planwriter.specs.Stops.{stops_of}
 use Rattle.planwriter.specs.Files.{source_of, block_byte, content_of, block_of}
-use Rattle.planfile.proofs.Fills.{fill_more}
-use Rattle.planwriter.proofs.Pieces.{front_stands, filled}
+use Rattle.planwriter.proofs.Pieces.{fill_more, front_stands, filled}
 use Rattle.planwriter.proofs.Spots.{content_byte_lem}
 use Rattle.planwriter.proofs.write.fill.Goals as goal
 

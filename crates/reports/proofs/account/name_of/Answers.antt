@@ -2,6 +2,3 @@ use Rattle.reports.proofs.account.name_of.Goals as goal
 
 pub returns-then-detour-2 : goal.returns-then-detour-2
 returns-then-detour-2 c = rw (c.in-ByTree.is, c.if-detour-2.true)
-
-pub returns-then-detour-3 : goal.returns-then-detour-3
-returns-then-detour-3 c = rw (c.in-ByFile.is, c.if-detour-3.true)

@@ -8,13 +8,13 @@ use Rattle.script.proofs.parts.read_plan.Goals as goal
 pub returns-in-default : goal.returns-in-default
 returns-in-default c = sym (ap plan_of (no_word c.args.words.now (search rules)))
 
-pub returns-in-err-read-behind : goal.returns-in-err-read-behind
-returns-in-err-read-behind c =
+pub returns-in-err-read-nothing : goal.returns-in-err-read-nothing
+returns-in-err-read-nothing c =
     let n : 1 ≤ length c.args.words.now = search rules in
     let p = err_from_is_err_and c.from-residual.result c.from-residual.ensures.1 in
-    rw (p.1, p.2) (plan_read _ c.args.words.now _ _ n c.in-Some.ensures c.in-err-read-behind.ensures)
+    rw (p.1, p.2) (plan_read _ c.args.words.now _ _ n c.in-Some.ensures c.in-err-read-nothing.ensures)
 
 pub returns : goal.returns
 returns c =
     let n : 1 ≤ length c.args.words.now = search rules in
-    plan_read _ c.args.words.now _ _ n c.in-Some.ensures c.in-ok-read-behind.ensures
+    plan_read _ c.args.words.now _ _ n c.in-Some.ensures c.in-ok-read-nothing.ensures

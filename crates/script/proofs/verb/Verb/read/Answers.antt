@@ -16,7 +16,6 @@ returns-in-default c =
       differ w (codes "detour") c.in-default.not-detour,
       differ w (codes "via") c.in-default.not-via,
       differ w (codes "unvia") c.in-default.not-unvia,
-      differ w (codes "write") c.in-default.not-write,
       differ w (codes "check") c.in-default.not-check,
       differ w (codes "open") c.in-default.not-open,
       differ w (codes "enter") c.in-default.not-enter,
