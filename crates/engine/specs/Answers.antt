@@ -7,8 +7,8 @@ use Rattle.map.specs.Changes.{new_map, mark_stop, unmark_stop, close_table, reop
 use Rattle.links.specs.Courses.{pair_before}
 use Rattle.routes.specs.Routings.{Routing, by_key}
 use Rattle.routes.specs.declared.refusal.Refusal as Judgement
-use Rattle.check.specs.declared.pass.Pass.{Pass}
-use Rattle.check.specs.Plans.{plan_check}
+use Rattle.plancheck.specs.declared.pass.Pass.{Pass}
+use Rattle.plancheck.specs.Plans.{plan_check}
 use Rattle.detour.specs.declared.refusal.Refusal as Detours
 use Rattle.floor.specs.declared.floor.Floor.{Floor}
 use Rattle.script.specs.declared.call.Fault.{Fault}

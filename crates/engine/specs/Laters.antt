@@ -8,7 +8,7 @@ use Rattle.map.specs.Changes.{new_map}
 use Rattle.orders.specs.declared.key.Pair.{Pair}
 use Rattle.ways.specs.RowFirsts.{row_first_way, row_first_key}
 use Rattle.links.specs.Ways.{tree_way, tree_key}
-use Rattle.check.specs.Plans.{plan_check}
+use Rattle.plancheck.specs.Plans.{plan_check}
 use Rattle.detour.specs.declared.refusal.Refusal as Detours
 use Rattle.floor.specs.declared.floor.Floor.{Floor}
 use Rattle.floor.specs.Floors.{empty_floor}

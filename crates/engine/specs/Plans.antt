@@ -7,7 +7,7 @@ use Rattle.detour.specs.declared.refusal.Refusal.{Refusal}
 use Rattle.detour.specs.declared.detour.Detour.{Detour}
 use Rattle.detour.specs.Vias.{add_via, remove_via, told, after}
 use Rattle.detour.specs.Detours.{with_vias}
-use Rattle.check.specs.declared.pass.Pass.{Pass}
+use Rattle.plancheck.specs.declared.pass.Pass.{Pass}
 use Rattle.routes.specs.declared.refusal.Refusal as Judgement
 use Rattle.engine.specs.declared.finder.Named.{Named}
 use Rattle.engine.specs.declared.finder.Finder.{Finder}

@@ -2,7 +2,7 @@ ghost use Rattle.std.specs.Prelude.{◌≡◌, Some};
 ghost use Rattle.engine.specs.Outcomes.{is_refusal};
 ghost use Rattle.engine.specs.Texts.{outcome_text, refused_text};
 
-use check::pass::Pass;
+use plancheck::pass::Pass;
 use detour::refusal::Refusal as ViaRefusal;
 use floor::floor::{Counts, Entered, Moved};
 use map::refusal::Refusal as MapRefusal;

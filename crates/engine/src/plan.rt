@@ -4,7 +4,7 @@ ghost use Rattle.detour.specs.Vias.{told, after};
 ghost use Rattle.detour.specs.Detours.{with_vias};
 
 use crate::finder::{Finder, Named};
-use check::pass::Pass;
+use plancheck::pass::Pass;
 use detour::detour::Detour;
 use detour::refusal::Refusal as ViaRefusal;
 use routes::refusal::Refusal;

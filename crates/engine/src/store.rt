@@ -1,6 +1,6 @@
 ghost use Rattle.std.specs.Prelude.{◌≡◌, None};
 ghost use Rattle.map.specs.Layouts.{layout};
-ghost use Rattle.check.specs.Plans.{plan_check};
+ghost use Rattle.plancheck.specs.Plans.{plan_check};
 ghost use Rattle.map.specs.Changes.{told as mapTold, after, new_map};
 ghost use Rattle.engine.specs.Answers.{changed, map_of, map_outcome, answer_of, change_answer, vias_answer, check_answer, open_answer, plan_routing, verdict_told, use_answer, detour_answer, plan_answer};
 ghost use Rattle.engine.specs.Laters.{instead, changed_map, later_map, PlanLater, later_floor, unchecked_plan, new_map_else, changed_plan, Chosen, detour_later, vias_later, check_later, open_later, use_later};
@@ -9,8 +9,8 @@ ghost use Rattle.engine.specs.Uses.{floor_answer, floor_later};
 use crate::finder::{Finder, Named};
 use crate::outcome::{Outcome, Refused, Wrong};
 use crate::plan::Plan;
-use check::check;
-use check::pass::Pass;
+use plancheck::check;
+use plancheck::pass::Pass;
 use floor::floor::Floor;
 use map::map::Map;
 use map::refusal::Refusal;

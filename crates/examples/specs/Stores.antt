@@ -10,7 +10,7 @@ use Rattle.links.specs.Courses.{pair_before}
 use Rattle.routes.specs.declared.refusal.Refusal.{Refusal}
 use Rattle.routes.specs.Refusals.{reason_number}
 use Rattle.routes.specs.Routings.{Routing, by_key}
-use Rattle.check.specs.declared.pass.Pass.{Pass}
+use Rattle.plancheck.specs.declared.pass.Pass.{Pass}
 use Rattle.trays.specs.declared.event.Call.{Call}
 use Rattle.trays.specs.declared.event.Event.{Event}
 use Rattle.trays.specs.declared.event.Event.TheVariants.{Refused, Entered, Advanced}

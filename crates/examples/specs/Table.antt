@@ -2,7 +2,7 @@
 use Rattle.std.specs.Prelude.{◌≡◌, ℕ, List, [], ◌∷◌, ◌++◌, length, take, drop, replicate, Some, None, Option}
 use Rattle.ways.specs.RowFirsts.{row_first_way}
 use Rattle.links.specs.Ways.{tree_key}
-use Rattle.check.specs.Plans.{plan_check}
+use Rattle.plancheck.specs.Plans.{plan_check}
 use Rattle.trays.specs.declared.event.Call.{Call}
 use Rattle.trays.specs.declared.event.Call.TheVariants.{Enter, Advance}
 use Rattle.trays.specs.Logs.Log.{start, ◌then◌}

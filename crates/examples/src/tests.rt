@@ -1,5 +1,5 @@
 use crate::turning::Turning;
-use check::check;
+use plancheck::check;
 use floor::floor::Floor;
 use map::map::Map;
 use routes::refusal::{Reason, Refusal};

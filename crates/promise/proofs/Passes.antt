@@ -8,9 +8,9 @@ use Rattle.routes.specs.Steps.{route_check}
 use Rattle.routes.specs.Routes.{Route, Exact}
 use Rattle.routes.proofs.Limits.{Proper}
 use Rattle.routes.proofs.Exactly.{exact}
-use Rattle.check.specs.declared.pass.Pass.{Pass}
-use Rattle.check.specs.Plans.{plan_check}
-use Rattle.check.proofs.Decides.{passes, longest_bounds}
+use Rattle.plancheck.specs.declared.pass.Pass.{Pass}
+use Rattle.plancheck.specs.Plans.{plan_check}
+use Rattle.plancheck.proofs.Decides.{passes, longest_bounds}
 use Rattle.trays.specs.Sites.{two_stops}
 use Rattle.trays.proofs.Ahead.{Routed, Within, Small, Strict}
 use Rattle.trays.proofs.Keeps.{promised}

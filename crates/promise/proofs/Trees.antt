@@ -20,11 +20,11 @@ use Rattle.routes.specs.declared.refusal.Refusal.{Refusal}
 use Rattle.routes.specs.Routings.{Routing, by_key}
 use Rattle.routes.specs.Routes.{Route, segments_from}
 use Rattle.routes.proofs.Limits.{Proper}
-use Rattle.check.specs.declared.pass.Pass.{Pass}
-use Rattle.check.specs.Pairs.{wanted_pairs}
-use Rattle.check.specs.Plans.{plan_check}
-use Rattle.check.specs.Decisions.{Passed, Decided, all_segments, longest_route}
-use Rattle.check.proofs.Decides.{passes, decided}
+use Rattle.plancheck.specs.declared.pass.Pass.{Pass}
+use Rattle.plancheck.specs.Pairs.{wanted_pairs}
+use Rattle.plancheck.specs.Plans.{plan_check}
+use Rattle.plancheck.specs.Decisions.{Passed, Decided, all_segments, longest_route}
+use Rattle.plancheck.proofs.Decides.{passes, decided}
 use Rattle.trays.proofs.Lists.{none_some}
 use Rattle.promise.specs.Trees.{tree_routing, StopsJoined, TreePasses, EveryTreePasses}
 

@@ -3,8 +3,8 @@ use Rattle.std.specs.Prelude.{◌≡◌, ℕ, true, List, Ok, ◌≢◌}
 use Rattle.map.specs.Layouts.{is_stop}
 use Rattle.routes.specs.Routings.{Routing}
 use Rattle.routes.specs.Routes.{Route}
-use Rattle.check.specs.declared.pass.Pass.{Pass}
-use Rattle.check.specs.Plans.{plan_check}
+use Rattle.plancheck.specs.declared.pass.Pass.{Pass}
+use Rattle.plancheck.specs.Plans.{plan_check}
 use Rattle.trays.specs.declared.event.Call.{Call}
 use Rattle.trays.specs.Logs.{Log}
 use Rattle.trays.specs.Sites.{Site, site_of}

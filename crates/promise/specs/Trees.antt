@@ -7,7 +7,7 @@ use Rattle.links.specs.Groups.{Joined}
 use Rattle.links.specs.Ways.{tree_way, tree_key}
 use Rattle.links.specs.Courses.{pair_before}
 use Rattle.routes.specs.Routings.{Routing, by_key}
-use Rattle.check.specs.Plans.{plan_check}
+use Rattle.plancheck.specs.Plans.{plan_check}
 
 -- the tree plan of a map: its tree with its tree ranker
 abbrev pub tree_routing : Layout → Routing

@@ -2,14 +2,14 @@
 // that is promised of what passed.
 ghost use Rattle.std.specs.Prelude.{◌≡◌, true, ◌↔◌, is_ok};
 ghost use Rattle.routes.specs.Routings.{routing};
-ghost use Rattle.check.specs.Plans.{plan_check};
+ghost use Rattle.plancheck.specs.Plans.{plan_check};
 ghost use Rattle.floor.specs.Floors.{empty_floor};
 ghost use Rattle.map.specs.Layouts.{layout};
 ghost use Rattle.promise.specs.Floors.{FlowsAfterPass};
 ghost use Rattle.promise.specs.Trees.{tree_routing, StopsJoined, EveryTreePasses};
 
-use check::check;
-use check::pass::Pass;
+use plancheck::check;
+use plancheck::pass::Pass;
 use floor::floor::Floor;
 use map::map::Map;
 use orders::ranker::Ranker;

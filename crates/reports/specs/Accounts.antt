@@ -4,7 +4,7 @@ use Rattle.map.specs.declared.map.Map.{Map}
 use Rattle.map.specs.Layouts.{Layout, layout, table_closed, segment_closed, stop_count}
 use Rattle.routes.specs.declared.refusal.Refusal.{Refusal}
 use Rattle.routes.specs.Refusals.{reason_number}
-use Rattle.check.specs.declared.pass.Pass.{Pass}
+use Rattle.plancheck.specs.declared.pass.Pass.{Pass}
 use Rattle.trays.specs.Outcomes.{counts_outcome}
 use Rattle.floor.specs.declared.floor.Floor.{Floor}
 use Rattle.engine.specs.declared.finder.Named.{Named}

@@ -3,7 +3,7 @@ ghost use Rattle.reports.specs.Accounts.{account_text, figures_of, figures_text,
 ghost use Rattle.map.specs.Layouts.{layout, table_closed, segment_closed};
 ghost use Rattle.reports.specs.Numbers.{how_many_below};
 
-use check::pass::Pass;
+use plancheck::pass::Pass;
 use engine::finder::{Finder, Named};
 use engine::plan::Plan;
 use engine::session::Session;

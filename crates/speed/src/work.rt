@@ -1,6 +1,6 @@
 use crate::load::run_floor;
-use check::check;
-use check::pass::Pass;
+use plancheck::check;
+use plancheck::pass::Pass;
 use map::map::Map;
 use map::side::Side;
 use orders::ranker::Ranker;

@@ -1,6 +1,6 @@
 use Rattle.std.proofs.Common.{◌≡◌, is_ok, sym, refl, ap, ◌∙◌, subst}
 use Rattle.map.specs.Layouts.{layout}
-use Rattle.check.specs.Plans.{plan_check}
+use Rattle.plancheck.specs.Plans.{plan_check}
 use Rattle.tree.specs.Finders.{way_by, key_by}
 use Rattle.promise.proofs.Trees.{tree_plan, tree_passes, map_lawful}
 use Rattle.promise.proofs.check_tree.Goals as goal

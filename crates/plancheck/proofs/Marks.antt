@@ -6,7 +6,7 @@ use Rattle.map.specs.Counts.{how_many}
 use Rattle.map.specs.Floors.{column, row}
 use Rattle.map.specs.Layouts.{layout, is_stop}
 use Rattle.distinct.specs.Rows.{In, Away, Apart, Each}
-use Rattle.check.specs.Pairs.{marked_from}
+use Rattle.plancheck.specs.Pairs.{marked_from}
 
 shift : (i k : ℕ) (xs : List ℕ) → In (suc i + k) xs → In (i + suc k) xs
 shift i k xs h = let e : suc i + k ≡ i + suc k = omega arith in subst (λ y. In y xs) e h

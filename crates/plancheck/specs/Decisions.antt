@@ -4,10 +4,10 @@ use Rattle.map.specs.Layouts.{is_stop}
 use Rattle.routes.specs.declared.refusal.Refusal.{Refusal}
 use Rattle.routes.specs.Routings.{Routing}
 use Rattle.routes.specs.Routes.{Route, Fault}
-use Rattle.check.specs.declared.pass.Pass.{Pass}
-use Rattle.check.specs.Totals.{larger}
-use Rattle.check.specs.Pairs.{wanted_pairs}
-use Rattle.check.specs.Wanted.{PairIn}
+use Rattle.plancheck.specs.declared.pass.Pass.{Pass}
+use Rattle.plancheck.specs.Totals.{larger}
+use Rattle.plancheck.specs.Pairs.{wanted_pairs}
+use Rattle.plancheck.specs.Wanted.{PairIn}
 
 -- the segments of the pairs' routes together
 abbrev pub all_segments : (ℕ → ℕ → List ℕ) → List (ℕ × ℕ) → ℕ

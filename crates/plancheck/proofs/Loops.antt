@@ -5,12 +5,12 @@ use Rattle.map.specs.Layouts.{is_stop}
 use Rattle.routes.specs.declared.refusal.Refusal.{Refusal}
 use Rattle.routes.specs.Routings.{Routing}
 use Rattle.routes.specs.Steps.{route_check}
-use Rattle.check.specs.declared.pass.Pass.{Pass}
-use Rattle.check.specs.Totals.{counting, Few, no_pairs}
-use Rattle.check.specs.Pairs.{stops_of, facing, pairs_from}
-use Rattle.check.specs.Plans.{counted, check_pairs, plan_check}
-use Rattle.check.proofs.Joins.{and_then, join}
-use Rattle.check.proofs.Marks.{left, left_here, left_none}
+use Rattle.plancheck.specs.declared.pass.Pass.{Pass}
+use Rattle.plancheck.specs.Totals.{counting, Few, no_pairs}
+use Rattle.plancheck.specs.Pairs.{stops_of, facing, pairs_from}
+use Rattle.plancheck.specs.Plans.{counted, check_pairs, plan_check}
+use Rattle.plancheck.proofs.Joins.{and_then, join}
+use Rattle.plancheck.proofs.Marks.{left, left_here, left_none}
 
 -- b is counted onto a over the stops below i, and those from i on decide
 pub record From (s : Routing) (o : ℕ) (a : Pass) (i : ℕ) (b : Pass) : Type 0 where

@@ -1,6 +1,6 @@
 use Rattle.routes.specs.Routings.{routing}
-use Rattle.check.proofs.Loops.{All}
-use Rattle.check.proofs.check.Given as goal
+use Rattle.plancheck.proofs.Loops.{All}
+use Rattle.plancheck.proofs.check.Given as goal
 
 abbrev pub invariant-loop-origin : goal.invariant-loop-origin
 invariant-loop-origin g l =

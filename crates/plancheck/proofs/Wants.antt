@@ -2,8 +2,8 @@
 use Rattle.std.proofs.Common.{◌≡◌, ℕ, ◌⊎◌, List, [], ◌∷◌, ◌++◌, sym, refl, ◌∙◌, subst, inl, inr}
 use Rattle.std.proofs.lemmas.Bool.{cases_eq, eq-eqb, ne_eqb}
 use Rattle.distinct.specs.Rows.{In}
-use Rattle.check.specs.Pairs.{facing, pairs_from}
-use Rattle.check.specs.Wanted.{PairIn}
+use Rattle.plancheck.specs.Pairs.{facing, pairs_from}
+use Rattle.plancheck.specs.Wanted.{PairIn}
 
 module _ (o d : ℕ) where
   in_left : (ps qs : List (ℕ × ℕ)) → PairIn o d ps → PairIn o d (ps ++ qs)

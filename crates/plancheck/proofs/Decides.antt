@@ -6,16 +6,16 @@ use Rattle.routes.specs.Steps.{route_check}
 use Rattle.routes.specs.Routes.{Route, Exact}
 use Rattle.routes.proofs.Limits.{Proper, ok_not_err, ok_same}
 use Rattle.routes.proofs.Exactly.{exact}
-use Rattle.check.specs.declared.pass.Pass.{Pass}
-use Rattle.check.specs.Totals.{larger, no_pairs, counting}
-use Rattle.check.specs.Pairs.{wanted_pairs}
-use Rattle.check.specs.Wanted.{PairIn}
-use Rattle.check.specs.Plans.{counted, check_pairs, plan_check}
-use Rattle.check.specs.Decisions.{all_segments, longest_route, Passed, Fails, Decided}
-use Rattle.check.specs.Longest.{Longest-bounds}
-use Rattle.check.proofs.Joins.{and_then, join}
-use Rattle.check.proofs.Larger.{larger_larger, larger_none, larger_zero, first_within, second_within}
-use Rattle.check.proofs.AllPairs.{all_wanted}
+use Rattle.plancheck.specs.declared.pass.Pass.{Pass}
+use Rattle.plancheck.specs.Totals.{larger, no_pairs, counting}
+use Rattle.plancheck.specs.Pairs.{wanted_pairs}
+use Rattle.plancheck.specs.Wanted.{PairIn}
+use Rattle.plancheck.specs.Plans.{counted, check_pairs, plan_check}
+use Rattle.plancheck.specs.Decisions.{all_segments, longest_route, Passed, Fails, Decided}
+use Rattle.plancheck.specs.Longest.{Longest-bounds}
+use Rattle.plancheck.proofs.Joins.{and_then, join}
+use Rattle.plancheck.proofs.Larger.{larger_larger, larger_none, larger_zero, first_within, second_within}
+use Rattle.plancheck.proofs.AllPairs.{all_wanted}
 
 abbrev pass_of : ℕ → ℕ → ℕ → Pass
 pass_of x y z = record { pairs = x; segments = y; longest = z }

@@ -1,7 +1,7 @@
 -- Which pairs are wanted, in which order, and how many.
 use Rattle.std.specs.Prelude.{◌≡◌, ℕ, ◌-◌, ◌*◌, ◌<◌, true, ◌⊎◌, List, [], ◌∷◌, length, ◌≢◌}
 use Rattle.map.specs.Layouts.{Layout, is_stop, stop_count}
-use Rattle.check.specs.Pairs.{wanted_pairs}
+use Rattle.plancheck.specs.Pairs.{wanted_pairs}
 
 -- the pair of o and d is among the pairs
 abbrev pub PairIn : ℕ → ℕ → List (ℕ × ℕ) → Type 0

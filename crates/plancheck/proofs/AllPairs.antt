@@ -1,12 +1,12 @@
 -- What the wanted pairs are, together.
 use Rattle.std.proofs.Common.{◌≡◌, ◌+◌, ◌*◌, length, subst, arith}
 use Rattle.map.specs.Layouts.{Layout, stop_count}
-use Rattle.check.specs.Pairs.{stops_of, wanted_pairs}
-use Rattle.check.specs.Wanted.{AllWanted}
-use Rattle.check.proofs.Marks.{marks_have, marks_only, marks_climb, climbs_apart, marks_count}
-use Rattle.check.proofs.Wants.{from_has, from_parts}
-use Rattle.check.proofs.Counts.{from_length}
-use Rattle.check.proofs.Rises.{rising_from}
+use Rattle.plancheck.specs.Pairs.{stops_of, wanted_pairs}
+use Rattle.plancheck.specs.Wanted.{AllWanted}
+use Rattle.plancheck.proofs.Marks.{marks_have, marks_only, marks_climb, climbs_apart, marks_count}
+use Rattle.plancheck.proofs.Wants.{from_has, from_parts}
+use Rattle.plancheck.proofs.Counts.{from_length}
+use Rattle.plancheck.proofs.Rises.{rising_from}
 
 pub all_wanted : (m : Layout) → AllWanted m
 all_wanted m =

@@ -2,11 +2,11 @@
 ghost use Rattle.std.specs.Prelude.{◌≡◌, ◌+◌, ◌≤◌, IfOk};
 ghost use Rattle.map.specs.Layouts.{layout};
 ghost use Rattle.routes.specs.Routings.{routing};
-ghost use Rattle.check.specs.Pairs.{stops_of, facing};
-ghost use Rattle.check.specs.Totals.{counting, Few};
-ghost use Rattle.check.specs.Plans.{check_pairs, plan_check};
-ghost use Rattle.check.specs.Decisions.{Decided};
-ghost use Rattle.check.specs.Wanted.{AllWanted};
+ghost use Rattle.plancheck.specs.Pairs.{stops_of, facing};
+ghost use Rattle.plancheck.specs.Totals.{counting, Few};
+ghost use Rattle.plancheck.specs.Plans.{check_pairs, plan_check};
+ghost use Rattle.plancheck.specs.Decisions.{Decided};
+ghost use Rattle.plancheck.specs.Wanted.{AllWanted};
 
 pub mod pass;
 

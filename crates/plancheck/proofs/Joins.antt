@@ -3,9 +3,9 @@ use Rattle.std.proofs.Common.{◌≡◌, ℕ, List, [], ◌∷◌, ◌++◌, Ok,
 use Rattle.routes.specs.declared.refusal.Refusal.{Refusal}
 use Rattle.routes.specs.Routings.{Routing}
 use Rattle.routes.specs.Steps.{route_check}
-use Rattle.check.specs.declared.pass.Pass.{Pass}
-use Rattle.check.specs.Totals.{counting}
-use Rattle.check.specs.Plans.{counted, check_pairs}
+use Rattle.plancheck.specs.declared.pass.Pass.{Pass}
+use Rattle.plancheck.specs.Totals.{counting}
+use Rattle.plancheck.specs.Plans.{counted, check_pairs}
 
 abbrev pub and_then : Result Pass Refusal → (Pass → Result Pass Refusal) → Result Pass Refusal
 and_then (Ok a) on = on a

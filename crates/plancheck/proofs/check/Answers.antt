@@ -1,12 +1,12 @@
 use Rattle.std.proofs.Common.{sym, ◌∙◌}
 use Rattle.std.proofs.lemmas.Result.{err_from_is_err_and}
 use Rattle.routes.proofs.Limits.{proper}
-use Rattle.check.proofs.Marks.{no_stop_past}
-use Rattle.check.proofs.AllPairs.{all_wanted}
-use Rattle.check.proofs.Decides.{decided}
-use Rattle.check.proofs.Loops.{all_all, all_no_stop, all_fails, all_more}
-use Rattle.check.proofs.check.Goals as goal
-use Rattle.check.proofs.check.Goals.{then-is-stop+in-ok-pass, else-is-stop}
+use Rattle.plancheck.proofs.Marks.{no_stop_past}
+use Rattle.plancheck.proofs.AllPairs.{all_wanted}
+use Rattle.plancheck.proofs.Decides.{decided}
+use Rattle.plancheck.proofs.Loops.{all_all, all_no_stop, all_fails, all_more}
+use Rattle.plancheck.proofs.check.Goals as goal
+use Rattle.plancheck.proofs.check.Goals.{then-is-stop+in-ok-pass, else-is-stop}
 
 pub returns-in-err-pass : goal.returns-in-err-pass
 returns-in-err-pass g c =

@@ -1,7 +1,7 @@
 -- The larger of two numbers.
 use Rattle.std.proofs.Common.{◌≡◌, ℕ, ◌<◌, ◌≤◌, inl, inr, arith}
 use Rattle.std.proofs.lemmas.Bool.{cases_lt, lt-ltb, le-ltb}
-use Rattle.check.specs.Totals.{larger}
+use Rattle.plancheck.specs.Totals.{larger}
 
 pub larger_larger : (a b c : ℕ) → larger (larger a b) c ≡ larger a (larger b c)
 larger_larger a b c =

@@ -1,10 +1,10 @@
 use Rattle.std.proofs.Common.{sym, ◌∙◌, arith}
 use Rattle.std.proofs.lemmas.Result.{err_from_is_err_and}
 use Rattle.routes.proofs.Exactly.{exact_short}
-use Rattle.check.proofs.Marks.{no_stop_past}
-use Rattle.check.proofs.Loops.{from_all, from_no_stop, from_same, from_fails, from_more}
-use Rattle.check.proofs.check_from.Goals as goal
-use Rattle.check.proofs.check_from.Goals.{then-is-stop+then-destination-origin+in-ok-length, else-is-stop, else-is-stop-via-then-is-stop+else-destination-origin, else-is-stop-via-else-is-stop}
+use Rattle.plancheck.proofs.Marks.{no_stop_past}
+use Rattle.plancheck.proofs.Loops.{from_all, from_no_stop, from_same, from_fails, from_more}
+use Rattle.plancheck.proofs.check_from.Goals as goal
+use Rattle.plancheck.proofs.check_from.Goals.{then-is-stop+then-destination-origin+in-ok-length, else-is-stop, else-is-stop-via-then-is-stop+else-destination-origin, else-is-stop-via-else-is-stop}
 
 pub returns-in-err-length : goal.returns-in-err-length
 returns-in-err-length g c =

@@ -3,9 +3,9 @@ use Rattle.std.specs.Prelude.{ℕ, List, [], ◌∷◌, Ok, Err, Result}
 use Rattle.routes.specs.declared.refusal.Refusal.{Refusal}
 use Rattle.routes.specs.Routings.{Routing}
 use Rattle.routes.specs.Steps.{route_check}
-use Rattle.check.specs.declared.pass.Pass.{Pass}
-use Rattle.check.specs.Pairs.{wanted_pairs}
-use Rattle.check.specs.Totals.{no_pairs, counting}
+use Rattle.plancheck.specs.declared.pass.Pass.{Pass}
+use Rattle.plancheck.specs.Pairs.{wanted_pairs}
+use Rattle.plancheck.specs.Totals.{no_pairs, counting}
 
 abbrev pub counted : Pass → Result ℕ Refusal → (Pass → Result Pass Refusal) → Result Pass Refusal
 counted a (Ok n) on = on (counting a n)

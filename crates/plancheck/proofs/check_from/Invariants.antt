@@ -1,6 +1,6 @@
 use Rattle.routes.specs.Routings.{routing}
-use Rattle.check.proofs.Loops.{From}
-use Rattle.check.proofs.check_from.Given as goal
+use Rattle.plancheck.proofs.Loops.{From}
+use Rattle.plancheck.proofs.check_from.Given as goal
 
 abbrev pub invariant-loop-stop : goal.invariant-loop-stop
 invariant-loop-stop g l =

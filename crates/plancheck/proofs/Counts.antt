@@ -2,7 +2,7 @@
 use Rattle.std.proofs.Common.{◌≡◌, ℕ, suc, ◌+◌, ◌*◌, List, [], ◌∷◌, length, sym, refl, ap, subst, inl, inr, suc-mul, zero-mul, arith, length-append}
 use Rattle.std.proofs.lemmas.Bool.{cases_eq, eq-eqb, ne_eqb}
 use Rattle.distinct.specs.Rows.{In, Away, Apart}
-use Rattle.check.specs.Pairs.{facing, pairs_from}
+use Rattle.plancheck.specs.Pairs.{facing, pairs_from}
 
 away_facing : (o : ℕ) (ds : List ℕ) → Away o ds → length (facing o ds) ≡ length ds
 away_facing o [] a = refl

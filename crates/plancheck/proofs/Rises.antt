@@ -1,9 +1,9 @@
 -- The wanted pairs come in rising order.
 use Rattle.std.proofs.Common.{ℕ, ◌<◌, Bool, true, false, cond, eqb, List, [], ◌∷◌, ◌++◌, refl, inl, inr}
 use Rattle.distinct.specs.Rows.{Each}
-use Rattle.check.specs.Pairs.{facing, pairs_from}
-use Rattle.check.specs.Wanted.{Ahead, Rising}
-use Rattle.check.proofs.Marks.{Climbs}
+use Rattle.plancheck.specs.Pairs.{facing, pairs_from}
+use Rattle.plancheck.specs.Wanted.{Ahead, Rising}
+use Rattle.plancheck.proofs.Marks.{Climbs}
 
 -- each of some pairs comes before each of others
 abbrev AllAhead : List (ℕ × ℕ) → List (ℕ × ℕ) → Type 0

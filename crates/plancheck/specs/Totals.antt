@@ -1,6 +1,6 @@
 -- What is counted as pairs pass.
 use Rattle.std.specs.Prelude.{ℕ, ◌+◌, ◌*◌, ◌≤◌, cond, nat_lt}
-use Rattle.check.specs.declared.pass.Pass.{Pass}
+use Rattle.plancheck.specs.declared.pass.Pass.{Pass}
 
 abbrev pub larger : ℕ → ℕ → ℕ
 larger m n = cond (nat_lt m n) n m
