@@ -1,2 +1,4 @@
 // Blocks of bytes, and the sum of their words.
+#![tactic(auto)]
+
 pub mod sum;

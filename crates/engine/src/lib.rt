@@ -1,4 +1,6 @@
 // A script, call by call: the store that it describes, what each call answers, and what it leaves.
+#![tactic(auto)]
+
 pub mod finder;
 pub mod outcome;
 pub mod plan;

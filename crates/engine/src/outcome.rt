@@ -2,10 +2,10 @@ ghost use Rattle.std.specs.Prelude.{◌≡◌, Some};
 ghost use Rattle.engine.specs.Outcomes.{is_refusal};
 ghost use Rattle.engine.specs.Texts.{outcome_text, refused_text};
 
-use plancheck::pass::Pass;
 use detour::refusal::Refusal as ViaRefusal;
 use floor::floor::{Counts, Entered, Moved};
 use map::refusal::Refusal as MapRefusal;
+use plancheck::pass::Pass;
 use routes::refusal::Refusal as RouteRefusal;
 use script::call::Fault;
 use std::fmt;

@@ -4,9 +4,9 @@ ghost use Rattle.detour.specs.Vias.{told, after};
 ghost use Rattle.detour.specs.Detours.{with_vias};
 
 use crate::finder::{Finder, Named};
-use plancheck::pass::Pass;
 use detour::detour::Detour;
 use detour::refusal::Refusal as ViaRefusal;
+use plancheck::pass::Pass;
 use routes::refusal::Refusal;
 use script::call::ViaChange;
 

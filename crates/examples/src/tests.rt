@@ -1,7 +1,7 @@
 use crate::turning::Turning;
-use plancheck::check;
 use floor::floor::Floor;
 use map::map::Map;
+use plancheck::check;
 use routes::refusal::{Reason, Refusal};
 use std::test::Fail;
 use trays::refusal::Refusal as FloorRefusal;

@@ -1,4 +1,6 @@
 // Whether every stop of a map is reached from every other by a plan.
+#![tactic(auto)]
+
 ghost use Rattle.std.specs.Prelude.{◌≡◌, ◌+◌, ◌≤◌, IfOk};
 ghost use Rattle.map.specs.Layouts.{layout};
 ghost use Rattle.routes.specs.Routings.{routing};
@@ -20,8 +22,8 @@ use ways::finder::WayFinder;
 /// Checks the route of each pair of different stops, origins rising, then destinations rising:
 /// what they add up to, or the first that is refused.
 pub fn check<W: WayFinder, R: Ranker>(map: &Map, finder: &W, ranker: &R) -> Result<Pass, Refusal>
-    ensures is { result ≡ plan_check (routing W.WayFinder R.Ranker Key-as-KeyOrder map.now finder.now ranker.now) }
-    ensures decided { Decided (routing W.WayFinder R.Ranker Key-as-KeyOrder map.now finder.now ranker.now) result }
+    ensures is { result ≡ plan_check (routing W.WayFinder R.Ranker R.Key.KeyOrder map.now finder.now ranker.now) }
+    ensures decided { Decided (routing W.WayFinder R.Ranker R.Key.KeyOrder map.now finder.now ranker.now) result }
     ensures pairs { AllWanted (layout map.now) }
 {
     let mut pass = Pass {
@@ -47,7 +49,7 @@ fn check_from<W: WayFinder, R: Ranker>(
 ) -> Result<Pass, Refusal>
     requires { Few before 65280 }
     ensures counted { IfOk result (λ p. Few p (before.pairs + 256)) }
-    ensures is { result ≡ check_pairs (routing W.WayFinder R.Ranker Key-as-KeyOrder map.now finder.now ranker.now) before (facing origin (stops_of (layout map.now))) }
+    ensures is { result ≡ check_pairs (routing W.WayFinder R.Ranker R.Key.KeyOrder map.now finder.now ranker.now) before (facing origin (stops_of (layout map.now))) }
 {
     let mut pass = before;
     for stop in 0..256u16 {

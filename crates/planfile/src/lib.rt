@@ -1,5 +1,7 @@
 // Written plans: a file of blocks, read in place from the caller's bytes, that is a way-finder and
 // a ranker.
+#![tactic(auto)]
+
 pub mod block;
 mod bytes;
 mod judge;

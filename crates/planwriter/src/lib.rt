@@ -1,4 +1,6 @@
 // Writing plans into a caller's buffer.
+#![tactic(auto)]
+
 mod bytes;
 pub mod rewrite;
 mod stops;

@@ -1,5 +1,7 @@
 // A floor opened on a map, a way-finder and a ranker, with what the check says of them and all
 // that is promised of what passed.
+#![tactic(auto)]
+
 ghost use Rattle.std.specs.Prelude.{◌≡◌, true, ◌↔◌, is_ok};
 ghost use Rattle.routes.specs.Routings.{routing};
 ghost use Rattle.plancheck.specs.Plans.{plan_check};
@@ -8,11 +10,11 @@ ghost use Rattle.map.specs.Layouts.{layout};
 ghost use Rattle.promise.specs.Floors.{FlowsAfterPass};
 ghost use Rattle.promise.specs.Trees.{tree_routing, StopsJoined, EveryTreePasses};
 
-use plancheck::check;
-use plancheck::pass::Pass;
 use floor::floor::Floor;
 use map::map::Map;
 use orders::ranker::Ranker;
+use plancheck::check;
+use plancheck::pass::Pass;
 use routes::refusal::Refusal;
 use tree::tree::Tree;
 use ways::finder::WayFinder;
@@ -28,9 +30,9 @@ pub struct Opened<W> {
 /// to a standstill, whatever entries and advances follow.
 pub fn open_checked<W: WayFinder, R: Ranker>(map: Map, finder: W, ranker: &R) -> Opened<W>
     ensures floor { result.floor ≡ empty_floor map finder }
-    ensures verdict { result.verdict ≡ plan_check (routing W.WayFinder R.Ranker Key-as-KeyOrder map finder ranker.now) }
+    ensures verdict { result.verdict ≡ plan_check (routing W.WayFinder R.Ranker R.Key.KeyOrder map finder ranker.now) }
     ensures tree { EveryTreePasses }
-    ensures flows { FlowsAfterPass (routing W.WayFinder R.Ranker Key-as-KeyOrder map finder ranker.now) }
+    ensures flows { FlowsAfterPass (routing W.WayFinder R.Ranker R.Key.KeyOrder map finder ranker.now) }
 {
     let verdict = check(&map, &finder, ranker);
     Opened {

@@ -3,12 +3,12 @@ ghost use Rattle.reports.specs.Accounts.{account_text, figures_of, figures_text,
 ghost use Rattle.map.specs.Layouts.{layout, table_closed, segment_closed};
 ghost use Rattle.reports.specs.Numbers.{how_many_below};
 
-use plancheck::pass::Pass;
 use engine::finder::{Finder, Named};
 use engine::plan::Plan;
 use engine::session::Session;
 use floor::floor::Floor;
 use map::map::Map;
+use plancheck::pass::Pass;
 use routes::refusal::Refusal;
 use std::fmt;
 

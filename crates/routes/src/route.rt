@@ -19,8 +19,8 @@ pub fn check_route<W: WayFinder, R: Ranker>(
     origin: u8,
     destination: u8,
 ) -> Result<u16, Refusal>
-    ensures is { result ≡ route_check (routing W.WayFinder R.Ranker Key-as-KeyOrder map.now finder.now ranker.now) origin destination }
-    ensures exact { Exact (routing W.WayFinder R.Ranker Key-as-KeyOrder map.now finder.now ranker.now) origin destination result }
+    ensures is { result ≡ route_check (routing W.WayFinder R.Ranker R.Key.KeyOrder map.now finder.now ranker.now) origin destination }
+    ensures exact { Exact (routing W.WayFinder R.Ranker R.Key.KeyOrder map.now finder.now ranker.now) origin destination result }
 {
     let mut table = origin;
     let mut note = finder.first_note(origin, destination);

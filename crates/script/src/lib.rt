@@ -1,4 +1,6 @@
 // The script language: which call the words of a line make.
+#![tactic(auto)]
+
 pub mod call;
 mod number;
 mod parts;

@@ -1,5 +1,7 @@
 // The work that the benchmark times. Each piece of work comes to a number, which the baseline must
 // come to too. With the word `time` each line tells the nanoseconds of one round as well.
+#![tactic(auto)]
+
 mod load;
 mod work;
 

@@ -1,9 +1,9 @@
 use crate::load::run_floor;
-use plancheck::check;
-use plancheck::pass::Pass;
 use map::map::Map;
 use map::side::Side;
 use orders::ranker::Ranker;
+use plancheck::check;
+use plancheck::pass::Pass;
 use routes::refusal::Refusal;
 use tree::tree::Tree;
 use ways::finder::WayFinder;

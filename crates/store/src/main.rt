@@ -1,4 +1,6 @@
 // Asks a script's calls of the library, line by line, and ends with an account.
+#![tactic(auto)]
+
 use anyhow::anyhow;
 use engine::outcome::Outcome;
 use engine::session::Session;

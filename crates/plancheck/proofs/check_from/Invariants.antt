@@ -4,4 +4,4 @@ use Rattle.plancheck.proofs.check_from.Given as goal
 
 abbrev pub invariant-loop-stop : goal.invariant-loop-stop
 invariant-loop-stop g l =
-    From (routing g.W.WayFinder g.R.Ranker g.Key.KeyOrder l.map l.finder l.ranker) l.origin l.initial.pass l.stop l.pass
+    From (routing g.W.WayFinder g.R.Ranker g.R.Key.KeyOrder l.map l.finder l.ranker) l.origin l.initial.pass l.stop l.pass

@@ -15,5 +15,5 @@ returns c =
     let short : length left < 4 = omega (arith, ltb-true) in
     record {
       is = omega (arith, words_few left short);
-      tells = λ i n d long bytes only same. one_byte i n c.args.block.now d (λ k. (c.type-inv.block k).fits) bytes long only same;
+      tells = λ i n d long bytes only same. one_byte i n c.args.block.now d (λ k. (c.type_inv.block k).fits) bytes long only same;
     }

@@ -4,7 +4,7 @@ use Rattle.detour.proofs.vias.find_via.Goals as goal
 
 pub returns-then-holds : goal.returns-then-holds
 returns-then-holds c =
-    c.table-in.ensures ∙ found_here c.args.places.now _ _ c.loop-place.place-index (omega arith) c.loop-place.invariant (sym c.holds.ensures ∙ c.if-holds.true)
+    c.table_in.ensures ∙ found_here c.args.places.now _ _ c.loop-place.place-index (omega arith) c.loop-place.invariant (sym c.holds.ensures ∙ c.if-holds.true)
 
 pub loop-place-preserved : goal.loop-place-preserved
 loop-place-preserved c =

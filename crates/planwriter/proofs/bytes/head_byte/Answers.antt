@@ -1,7 +1,7 @@
 use Rattle.std.proofs.Common.{◌-◌, sym, ◌∙◌, arith}
 use Rattle.std.proofs.lemmas.List.{get_or_past}
 use Rattle.std.proofs.lemmas.Bool.{le-ltb, cond-false}
-use Rattle.planwriter.proofs.bytes.head_byte_lem.Goals as goal
+use Rattle.planwriter.proofs.bytes.head_byte.Goals as goal
 
 pub returns-else-place-stops : goal.returns-else-place-stops
 returns-else-place-stops c =

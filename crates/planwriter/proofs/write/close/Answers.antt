@@ -7,5 +7,5 @@ pub returns : goal.returns
 returns c =
     let was = c.args.block.now in
     put_last was _ c.requires
-    ∙ ap (λ l. take 508 was ++ l) (c.copy-from-slice.ensures.after ∙ c.to-be-bytes-last.ensures)
-    ∙ ap (λ s. take 508 was ++ big_endian (4294967295 - s)) c.word-sum.ensures.is
+    ∙ ap (λ l. take 508 was ++ l) (c.copy_from_slice.ensures.after ∙ c.to_be_bytes-last.ensures)
+    ∙ ap (λ s. take 508 was ++ big_endian (4294967295 - s)) c.word_sum.ensures.is

@@ -12,10 +12,10 @@ use Rattle.planwriter.proofs.write.write.Goals as goal
 pub loop-k-preserved : goal.loop-k-preserved
 loop-k-preserved g c =
     let source = source_of (layout c.args.map.now) (g.W.WayFinder.first c.args.finder.now) (g.W.WayFinder.way c.args.finder.now) c.args.keys.now in
-    let found = c.stops-of-stops.ensures in
+    let found = c.stops_of-stops.ensures in
     let long = found.long in
     let few = found.few in
-    let count : length (stops_of (layout c.args.map.now)) ≡ c.stops-of-stops.result.count = count_is _ _ _ found.are (omega arith) in
+    let count : length (stops_of (layout c.args.map.now)) ≡ c.stops_of-stops.result.count = count_is _ _ _ found.are (omega arith) in
     let kept = c.loop-k.auto.buffer in
     let room : 512 * (length (stops_of (layout c.args.map.now)) + 9) ≤ length c.loop-k.buffer = omega arith in
     let within : c.loop-k.k < length (stops_of (layout c.args.map.now)) + 9 = omega arith in
@@ -25,18 +25,18 @@ pub returns : goal.returns
 returns g c =
     let source = source_of (layout c.args.map.now) (g.W.WayFinder.first c.args.finder.now) (g.W.WayFinder.way c.args.finder.now) c.args.keys.now in
     let stops = length (stops_of (layout c.args.map.now)) in
-    let found = c.stops-of-stops.ensures in
+    let found = c.stops_of-stops.ensures in
     let long = found.long in
     let few = found.few in
-    let count : length (stops_of (layout c.args.map.now)) ≡ c.stops-of-stops.result.count = count_is _ _ _ found.are (omega arith) in
+    let count : length (stops_of (layout c.args.map.now)) ≡ c.stops_of-stops.result.count = count_is _ _ _ found.are (omega arith) in
     let keys : length c.args.keys.now ≡ 1024 = omega arith in
     let room : 512 * (stops + 9) ≤ length c.args.buffer.now = omega arith in
     let all : c.loop-k.k ≡ stops + 9 = omega arith in
-    let end : 512 * c.loop-k.k ≡ 512 * (c.stops-of-stops.result.count + 9) = omega arith in
+    let end : 512 * c.loop-k.k ≡ 512 * (c.stops_of-stops.result.count + 9) = omega arith in
     let good : Sound source =
-    sound (layout c.args.map.now) (g.W.WayFinder.first c.args.finder.now) (g.W.WayFinder.way c.args.finder.now) c.args.keys.now found.lawful (λ s. (c.type-inv.keys s).fits) in
+    sound (layout c.args.map.now) (g.W.WayFinder.first c.args.finder.now) (g.W.WayFinder.way c.args.finder.now) c.args.keys.now found.lawful (λ s. (c.type_inv.keys s).fits) in
     record {
-      outcome = written_ok _ _ stops c.stops-of-stops.result.count keys room count;
+      outcome = written_ok _ _ stops c.stops_of-stops.result.count keys room count;
       later = standing_all source c.args.buffer.now c.loop-k.buffer c.loop-k.k all c.loop-k.invariant ∙ ap (λ n. file_of source ++ drop n c.args.buffer.now) end;
       layout = of_layout source good;
       back = read_back source good;

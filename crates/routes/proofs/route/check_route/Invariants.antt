@@ -6,7 +6,7 @@ use Rattle.routes.proofs.route.check_route.Given as goal
 
 abbrev pub invariant-loop-side : goal.invariant-loop-side
 invariant-loop-side g l =
-    let s = routing g.W.WayFinder g.R.Ranker g.Key.KeyOrder l.map l.finder l.ranker in
+    let s = routing g.W.WayFinder g.R.Ranker g.R.Key.KeyOrder l.map l.finder l.ranker in
     (l.table < 256) × KeyKept (g.R.Ranker.key l.ranker) l.held × Sofar s l.origin l.destination l.number (segment_of l.held) l.table l.note
 
 abbrev pub decreases-loop-side : goal.decreases-loop-side

@@ -3,13 +3,13 @@ use Rattle.script.specs.Parts.{segment_of, one_segment}
 use Rattle.script.proofs.Words.{one_word, not_one}
 use Rattle.script.proofs.parts.read_one_segment.Goals as goal
 
-pub returns-in-default : goal.returns-in-default
-returns-in-default c = sym (not_one segment_of c.args.words.now (search rules))
+pub returns-in_default : goal.returns-in_default
+returns-in_default c = sym (not_one segment_of c.args.words.now (search rules))
 
-pub returns-in-default·2 : goal.returns-in-default·2
-returns-in-default·2 c = sym (not_one segment_of c.args.words.now (search rules))
+pub returns-in_default-2 : goal.returns-in_default-2
+returns-in_default-2 c = sym (not_one segment_of c.args.words.now (search rules))
 
 pub returns : goal.returns
 returns c =
     let n : length c.args.words.now ≡ 1 = search rules in
-    c.read-number.ensures.is ∙ sym (ap one_segment (one_word _ c.args.words.now n))
+    c.read_number.ensures.is ∙ sym (ap one_segment (one_word _ c.args.words.now n))

@@ -6,29 +6,29 @@ use Rattle.script.proofs.Words.{no_word}
 use Rattle.script.proofs.Readings.{part_read}
 use Rattle.script.proofs.parts.read_part.Goals as goal
 
-pub returns-in-default : goal.returns-in-default
-returns-in-default c = sym (ap part_of (no_word c.args.words.now (search rules)))
+pub returns-in_default : goal.returns-in_default
+returns-in_default c = sym (ap part_of (no_word c.args.words.now (search rules)))
 
-pub returns-in-err-read-one-table : goal.returns-in-err-read-one-table
-returns-in-err-read-one-table c =
+pub returns-in_err-read_one_table-in-Table : goal.returns-in_err-read_one_table-in-Table
+returns-in_err-read_one_table-in-Table c =
     let n : 1 ≤ length c.args.words.now = search rules in
-    let p = err_from_is_err_and c.from-residual.result c.from-residual.ensures.1 in
+    let p = err_from_is_err_and c.from_residual.result c.from_residual.ensures.1 in
     rw (p.1, p.2)
-    (part_read _ c.args.words.now _ _ _ n c.in-Some.ensures c.in-Table.is (ap (into ATable) c.in-err-read-one-table.ensures))
+    (part_read _ c.args.words.now _ _ _ n c.in-Some.ensures c.in-Table.is (ap (into ATable) c.in_err-read_one_table-in-Table.ensures))
 
-pub returns-in-ok-read-one-table : goal.returns-in-ok-read-one-table
-returns-in-ok-read-one-table c =
+pub returns-in_ok-read_one_table-in-Table : goal.returns-in_ok-read_one_table-in-Table
+returns-in_ok-read_one_table-in-Table c =
     let n : 1 ≤ length c.args.words.now = search rules in
-    part_read _ c.args.words.now _ _ _ n c.in-Some.ensures c.in-Table.is (ap (into ATable) c.in-ok-read-one-table.ensures)
+    part_read _ c.args.words.now _ _ _ n c.in-Some.ensures c.in-Table.is (ap (into ATable) c.in_ok-read_one_table-in-Table.ensures)
 
-pub returns-in-err-read-one-segment : goal.returns-in-err-read-one-segment
-returns-in-err-read-one-segment c =
+pub returns-in_err-read_one_segment-in-Segment : goal.returns-in_err-read_one_segment-in-Segment
+returns-in_err-read_one_segment-in-Segment c =
     let n : 1 ≤ length c.args.words.now = search rules in
-    let p = err_from_is_err_and c.from-residual-in-err-read-one-segment.result c.from-residual-in-err-read-one-segment.ensures.1 in
+    let p = err_from_is_err_and c.from_residual-in_err-read_one_segment-in-Segment.result c.from_residual-in_err-read_one_segment-in-Segment.ensures.1 in
     rw (p.1, p.2)
-    (part_read _ c.args.words.now _ _ _ n c.in-Some.ensures c.in-Segment.is (ap (into ASegment) c.in-err-read-one-segment.ensures))
+    (part_read _ c.args.words.now _ _ _ n c.in-Some.ensures c.in-Segment.is (ap (into ASegment) c.in_err-read_one_segment-in-Segment.ensures))
 
-pub returns-in-ok-read-one-segment : goal.returns-in-ok-read-one-segment
-returns-in-ok-read-one-segment c =
+pub returns-in_ok-read_one_segment-in-Segment : goal.returns-in_ok-read_one_segment-in-Segment
+returns-in_ok-read_one_segment-in-Segment c =
     let n : 1 ≤ length c.args.words.now = search rules in
-    part_read _ c.args.words.now _ _ _ n c.in-Some.ensures c.in-Segment.is (ap (into ASegment) c.in-ok-read-one-segment.ensures)
+    part_read _ c.args.words.now _ _ _ n c.in-Some.ensures c.in-Segment.is (ap (into ASegment) c.in_ok-read_one_segment-in-Segment.ensures)

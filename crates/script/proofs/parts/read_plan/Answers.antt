@@ -5,16 +5,16 @@ use Rattle.script.proofs.Words.{no_word}
 use Rattle.script.proofs.Readings.{plan_read}
 use Rattle.script.proofs.parts.read_plan.Goals as goal
 
-pub returns-in-default : goal.returns-in-default
-returns-in-default c = sym (ap plan_of (no_word c.args.words.now (search rules)))
+pub returns-in_default : goal.returns-in_default
+returns-in_default c = sym (ap plan_of (no_word c.args.words.now (search rules)))
 
-pub returns-in-err-read-nothing : goal.returns-in-err-read-nothing
-returns-in-err-read-nothing c =
+pub returns-in_err-read_nothing : goal.returns-in_err-read_nothing
+returns-in_err-read_nothing c =
     let n : 1 ≤ length c.args.words.now = search rules in
-    let p = err_from_is_err_and c.from-residual.result c.from-residual.ensures.1 in
-    rw (p.1, p.2) (plan_read _ c.args.words.now _ _ n c.in-Some.ensures c.in-err-read-nothing.ensures)
+    let p = err_from_is_err_and c.from_residual.result c.from_residual.ensures.1 in
+    rw (p.1, p.2) (plan_read _ c.args.words.now _ _ n c.in-Some.ensures c.in_err-read_nothing.ensures)
 
 pub returns : goal.returns
 returns c =
     let n : 1 ≤ length c.args.words.now = search rules in
-    plan_read _ c.args.words.now _ _ n c.in-Some.ensures c.in-ok-read-nothing.ensures
+    plan_read _ c.args.words.now _ _ n c.in-Some.ensures c.in_ok-read_nothing.ensures

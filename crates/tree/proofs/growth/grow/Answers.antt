@@ -4,18 +4,18 @@ use Rattle.links.proofs.Nearby.{map_sized}
 use Rattle.links.proofs.Grown.{some_is, none_is}
 use Rattle.tree.proofs.Sweeps.{Swept, swept_none, lowest_next, swept_spread, swept_gone, swept_known, roots_all, depths_all}
 use Rattle.tree.proofs.growth.grow.Goals as goal
-use Rattle.tree.proofs.growth.grow.Goals.{then-is-present+then-is-none, else-is-present, else-is-present-via-then-is-present+else-is-none, else-is-present-via-else-is-present}
+use Rattle.tree.proofs.growth.grow.Goals.{then-is_present+then-is_none, else-is_present, else-is_present-via-then-is_present+else-is_none, else-is_present-via-else-is_present}
 
 pub loop-i-init : goal.loop-i-init
 loop-i-init c = swept_none (layout c.args.map.now)
 
 pub spread-requires : goal.spread-requires
 spread-requires c =
-    let fresh = none_is _ c.if-is-none.ensures in
+    let fresh = none_is _ c.if-is_none.ensures in
     record {
       sound = c.loop-i.invariant.sound;
       fresh = fresh;
-      there = sym c.is-present.ensures ∙ c.if-is-present.true;
+      there = sym c.is_present.ensures ∙ c.if-is_present.true;
       lowest = lowest_next (layout c.args.map.now) (map_sized c.args.map.now) c.loop-i.i c.loop-i.growth c.loop-i.invariant fresh;
     }
 
@@ -25,13 +25,13 @@ loop-i-preserved c =
     let i = c.loop-i.i in
     let g = c.loop-i.growth in
     let size = map_sized c.args.map.now in
-    elim c.if-is-present.branch [
-      | then-is-present+then-is-none w ↦
+    elim c.if-is_present.branch [
+      | then-is_present+then-is_none w ↦
           subst (λ x. Swept m (i + 1) x) (sym w.growth-is) (swept_spread m size i g c.loop-i.invariant w.spread.new.self w.spread.ensures.sound w.spread.ensures.kept w.spread.ensures.own)
-      | else-is-present w ↦ subst (λ x. Swept m (i + 1) x) (sym w.growth-is) (
-          elim w.else-is-present.branch [
-            | else-is-present-via-then-is-present+else-is-none v ↦ (let k = some_is _ v.if-is-none.ensures in swept_known m size i g c.loop-i.invariant k.0 k.1)
-            | else-is-present-via-else-is-present v ↦ swept_gone m size i g c.loop-i.invariant (sym c.is-present.ensures ∙ v.if-is-present.false)
+      | else-is_present w ↦ subst (λ x. Swept m (i + 1) x) (sym w.growth-is) (
+          elim w.else-is_present.branch [
+            | else-is_present-via-then-is_present+else-is_none v ↦ (let k = some_is _ v.if-is_none.ensures in swept_known m size i g c.loop-i.invariant k.0 k.1)
+            | else-is_present-via-else-is_present v ↦ swept_gone m size i g c.loop-i.invariant (sym c.is_present.ensures ∙ v.if-is_present.false)
           ]
           )
     ]

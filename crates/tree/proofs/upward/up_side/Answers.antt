@@ -3,4 +3,4 @@ use Rattle.tree.proofs.upward.up_side.Goals as goal
 
 pub returns : goal.returns
 unfolding up_side
-returns c = c.first-nearer.ensures
+returns c = c.first_nearer.ensures

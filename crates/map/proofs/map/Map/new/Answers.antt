@@ -3,9 +3,17 @@ use Rattle.std.proofs.lemmas.Bool.{both_ways}
 use Rattle.map.proofs.Flags.{none_set, none_counted}
 use Rattle.map.proofs.map.Map.new.Goals as goal
 
-pub invariant-of-result : goal.invariant-of-result
-invariant-of-result c =
-    ((omega arith, omega arith), ((omega arith, omega arith), (λ t h. absurd (both_ways _ (none_set 256 t) h), (λ n h. absurd (both_ways _ (none_set 1024 n) h), (λ t h. absurd (both_ways _ (none_set 256 t) h), (sym (none_counted 256), (omega arith, tt)))))))
+pub invariant_of-result : goal.invariant_of-result
+invariant_of-result c =
+    record {
+      wide = (omega arith, omega arith);
+      high = (omega arith, omega arith);
+      tables_there = λ t h. absurd (both_ways _ (none_set 256 t) h);
+      segments_there = λ n h. absurd (both_ways _ (none_set 1024 n) h);
+      stops_there = λ t h. absurd (both_ways _ (none_set 256 t) h);
+      counted = sym (none_counted 256);
+      few = omega arith;
+    }
 
 pub returns : goal.returns
 returns c =

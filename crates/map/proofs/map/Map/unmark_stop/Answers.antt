@@ -11,11 +11,19 @@ returns-then-not-self-table c =
     let e = unmarked_already m c.args.table (sym c.if-not-has.ensures) c.if-not-self-table.true in
     record { outcome = sym (ap told e); later = sym (ap (after m) e); only = stop_kept _ m _ c.if-not-self-table.true }
 
-pub overflow-sub-self : goal.overflow-sub-self
-overflow-sub-self c = omega (arith, others_of_set c.args.self.now.stops c.args.table c.if-not-self-table.false)
+pub overflow_sub-self : goal.overflow_sub-self
+overflow_sub-self c = omega (arith, others_of_set c.args.self.now.stops c.args.table c.if-not-self-table.false)
 
-pub invariant-of-self : goal.invariant-of-self
-invariant-of-self c =
+pub invariant_of-self : goal.invariant_of-self
+invariant_of-self c =
     let m = c.args.self.now in
     let others = others_of_set m.stops c.args.table c.if-not-self-table.false in
-    (m.wide, (m.high, (m.tables_there, (m.segments_there, (set_there (on_map (layout m)) m.stops c.args.table _ (sym c.if-not-has.ensures) m.stops_there, (omega arith, (omega arith, tt)))))))
+    record {
+      wide = m.wide;
+      high = m.high;
+      tables_there = m.tables_there;
+      segments_there = m.segments_there;
+      stops_there = set_there (on_map (layout m)) m.stops c.args.table _ (sym c.if-not-has.ensures) m.stops_there;
+      counted = omega arith;
+      few = omega arith;
+    }

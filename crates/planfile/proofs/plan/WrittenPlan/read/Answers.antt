@@ -9,25 +9,25 @@ use Rattle.planfile.proofs.plan.WrittenPlan.read.Goals as goal
 pub returns : goal.returns
 returns c =
     let file = c.args.file.now in
-    let plan = of_layout file c.in-ok-judge.ensures in
+    let plan = of_layout file c.in_ok-judge.ensures in
     record {
-      outcome = (c.in-ok-judge.ensures, refl);
+      outcome = (c.in_ok-judge.ensures, refl);
       layout = plan;
-      told = holds file plan (λ k. (c.type-inv.file k).fits);
-      one_byte = one_byte_refused file plan (λ k. (c.type-inv.file k).fits);
-      one-named = λ i other bytes only. named file plan (λ k. (c.type-inv.file k).fits) i other bytes only;
+      told = holds file plan (λ k. (c.type_inv.file k).fits);
+      one_byte = one_byte_refused file plan (λ k. (c.type_inv.file k).fits);
+      one_named = λ i other bytes only. named file plan (λ k. (c.type_inv.file k).fits) i other bytes only;
     }
 
-pub returns-in-err-judge : goal.returns-in-err-judge
-returns-in-err-judge c =
+pub returns-in_err-judge : goal.returns-in_err-judge
+returns-in_err-judge c =
     let file = c.args.file.now in
-    let p = err_from_is_err_and c.from-residual.result c.from-residual.ensures.1 in
-    let refused = c.in-err-judge.ensures in
+    let p = err_from_is_err_and c.from_residual.result c.from_residual.ensures.1 in
+    let refused = c.in_err-judge.ensures in
     rw (p.1, p.2)
     (record {
       outcome = refused;
       layout = λ plan. none_some _ _ (plan_not_refused file plan) refused;
       told = first_fault file _ refused;
       one_byte = tt;
-      one-named = tt;
+      one_named = tt;
     })

@@ -5,8 +5,8 @@ use Rattle.script.proofs.Readings.{no_call_read, call_read}
 use Rattle.script.proofs.Sayings.{every_call_can_be_said}
 use Rattle.script.proofs.call.Call.read.Goals as goal
 
-pub returns-in-default : goal.returns-in-default
-returns-in-default c = record {
+pub returns-in_default : goal.returns-in_default
+returns-in_default c = record {
   is = sym (ap call_of (no_word c.args.words.now (search rules)));
   said = every_call_can_be_said;
 }

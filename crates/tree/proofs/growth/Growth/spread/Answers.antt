@@ -16,7 +16,7 @@ loop-place-init c =
 pub loop-place-preserved : goal.loop-place-preserved
 loop-place-preserved c =
     let next : suc c.loop-place.place ≡ c.loop-place.place + 1 = omega arith in
-    (subst (λ p. Spreading (layout c.args.map.now) c.args.root p c.look-around.new.self) next c.look-around.ensures.spreading, kept_on _ _ _ c.loop-place.invariant.1 c.look-around.ensures.kept)
+    (subst (λ p. Spreading (layout c.args.map.now) c.args.root p c.look_around.new.self) next c.look_around.ensures.spreading, kept_on _ _ _ c.loop-place.invariant.1 c.look_around.ensures.kept)
 
 pub returns : goal.returns
 returns c =

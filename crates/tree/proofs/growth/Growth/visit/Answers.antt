@@ -6,11 +6,11 @@ use Rattle.tree.specs.Growths.{Spreading, Seen, Kept}
 use Rattle.tree.proofs.Spreads.{room, within, spreading_new, kept_new, seen_new, seen_old, seen_none, kept_all}
 use Rattle.tree.proofs.growth.Growth.visit.Goals as goal
 
-pub overflow-add-depth : goal.overflow-add-depth
-overflow-add-depth c =
+pub overflow_add-depth : goal.overflow_add-depth
+overflow_add-depth c =
     let h = c.requires.spreading in
     let over = sym c.near.ensures ∙ c.in-Some.is in
-    let free : c.args.self.now.count < 256 = room _ _ _ _ h.sound (within _ (map_sized c.args.map.now) _ _ _ h c.requires.within _ _ over) (none_is _ c.if-is-none.ensures) in
+    let free : c.args.self.now.count < 256 = room _ _ _ _ h.sound (within _ (map_sized c.args.map.now) _ _ _ h c.requires.within _ _ over) (none_is _ c.if-is_none.ensures) in
     let low = h.sound.shallow c.args.place c.requires.within in
     omega arith
 
@@ -18,20 +18,20 @@ pub reach-requires : goal.reach-requires
 reach-requires c =
     let h = c.requires.spreading in
     let over = sym c.near.ensures ∙ c.in-Some.is in
-    room _ _ _ _ h.sound (within _ (map_sized c.args.map.now) _ _ _ h c.requires.within _ _ over) (none_is _ c.if-is-none.ensures)
+    room _ _ _ _ h.sound (within _ (map_sized c.args.map.now) _ _ _ h c.requires.within _ _ over) (none_is _ c.if-is_none.ensures)
 
-pub returns-in-default : goal.returns-in-default
-returns-in-default c = record {
+pub returns-in_default : goal.returns-in_default
+returns-in_default c = record {
   spreading = c.requires.spreading;
   kept = kept_all c.args.self.now;
-  seen = seen_none (layout c.args.map.now) c.args.root c.args.place c.args.self.now c.args.side (sym c.near.ensures ∙ c.in-default.is);
+  seen = seen_none (layout c.args.map.now) c.args.root c.args.place c.args.self.now c.args.side (sym c.near.ensures ∙ c.in_default.is);
 }
 
-pub returns-then-is-none : goal.returns-then-is-none
-returns-then-is-none c =
+pub returns-then-is_none : goal.returns-then-is_none
+returns-then-is_none c =
     let size = map_sized c.args.map.now in
     let over = sym c.near.ensures ∙ c.in-Some.is in
-    let fresh = none_is _ c.if-is-none.ensures in
+    let fresh = none_is _ c.if-is_none.ensures in
     let is = sym c.reach.ensures in
     record {
       spreading = subst (λ g. Spreading (layout c.args.map.now) c.args.root c.args.place g) is (spreading_new _ size _ _ _ c.requires.spreading c.requires.within _ _ over _ fresh refl);
@@ -39,10 +39,10 @@ returns-then-is-none c =
       seen = subst (λ g. Seen (layout c.args.map.now) c.args.root c.args.place c.args.side g) is (seen_new _ size _ _ _ c.requires.spreading c.requires.within _ _ over _ fresh refl);
     }
 
-pub returns-else-is-none : goal.returns-else-is-none
-returns-else-is-none c =
+pub returns-else-is_none : goal.returns-else-is_none
+returns-else-is_none c =
     let over = sym c.near.ensures ∙ c.in-Some.is in
-    let k = some_is _ c.if-is-none.ensures in
+    let k = some_is _ c.if-is_none.ensures in
     record {
       spreading = c.requires.spreading;
       kept = kept_all c.args.self.now;

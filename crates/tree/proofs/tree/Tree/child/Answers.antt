@@ -3,8 +3,8 @@ use Rattle.tree.specs.Finders.{parents_of}
 use Rattle.tree.proofs.Climbs.{climbed_found, climbed_top, climbed_more, climbed_all}
 use Rattle.tree.proofs.tree.Tree.child.Goals as goal
 
-pub returns-in-default : goal.returns-in-default
-returns-in-default c = climbed_top (parents_of c.args.self.now) _ _ _ _ c.loop-i.invariant.1 (sym c.parent.ensures ∙ c.in-default.is)
+pub returns-in_default : goal.returns-in_default
+returns-in_default c = climbed_top (parents_of c.args.self.now) _ _ _ _ c.loop-i.invariant.1 (sym c.parent.ensures ∙ c.in_default.is)
 
 pub returns-then-parent-table : goal.returns-then-parent-table
 returns-then-parent-table c = climbed_found (parents_of c.args.self.now) _ _ _ _ c.loop-i.invariant.1 _ c.loop-i-test.true (sym c.parent.ensures ∙ c.in-Some.is) c.if-parent-table.true

@@ -13,13 +13,13 @@ returns c =
     let size = map_sized c.args.map.now in
     let g = c.grow-growth.result in
     let depths = c.grow-growth.ensures.depths in
-    let sides = c.sides-of-sides.ensures in
-    let parents = c.parents-of-parents.ensures in
-    let w : Tree = record { roots = g.roots; depths = g.depths; sides = c.sides-of-sides.result; parents = c.parents-of-parents.result } in
+    let sides = c.sides_of-sides.ensures in
+    let parents = c.parents_of-parents.ensures in
+    let w : Tree = record { roots = g.roots; depths = g.depths; sides = c.sides_of-sides.result; parents = c.parents_of-parents.result } in
     let held : Holds m w = record {
       roots = c.grow-growth.ensures.roots;
       depths = depths;
-      sides = sides_held m size g.depths c.sides-of-sides.result c.parents-of-parents.result depths sides;
-      parents = parents_held m size g.depths c.sides-of-sides.result c.parents-of-parents.result depths sides parents;
+      sides = sides_held m size g.depths c.sides_of-sides.result c.parents_of-parents.result depths sides;
+      parents = parents_held m size g.depths c.sides_of-sides.result c.parents_of-parents.result depths sides parents;
     } in
-    record { holds = held; ways = ways_held m size w held; keys = keys_held m size w held; meaning = meaning m size; meant-ways = ways_meant m size; meant-keys = keys_meant m size; leads = leads m size }
+    record { holds = held; ways = ways_held m size w held; keys = keys_held m size w held; meaning = meaning m size; meant_ways = ways_meant m size; meant_keys = keys_meant m size; leads = leads m size }

@@ -12,6 +12,6 @@ returns-then-segment-ge1024 c = sym (cond-false _ _ _ (le-ltb _ _ c.if-segment-g
 pub returns : goal.returns
 unfolding key_over
 returns c =
-    c.key-at.ensures
-    ∙ ap (key_at (beside 16 16) (depths_of c.args.self.now) (sides_of c.args.self.now) (c.args.segment / 4)) c.of-segment.ensures
+    c.key_at.ensures
+    ∙ ap (key_at (beside 16 16) (depths_of c.args.self.now) (sides_of c.args.self.now) (c.args.segment / 4)) c.of_segment.ensures
     ∙ sym (cond-true _ _ _ (lt-ltb _ _ c.if-segment-ge1024.false))

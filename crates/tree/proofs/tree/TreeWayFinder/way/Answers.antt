@@ -8,18 +8,18 @@ returns-then-table-destination c =
     let w = c.args.self.now in
     sym (over_there (roots_of w) (sides_of w) (parents_of w) _ _ c.if-table-destination.true)
 
-pub returns-then-not-one-group : goal.returns-then-not-one-group
-returns-then-not-one-group c =
+pub returns-then-not-one_group : goal.returns-then-not-one_group
+returns-then-not-one_group c =
     let w = c.args.self.now in
-    sym (over_apart (roots_of w) (sides_of w) (parents_of w) _ _ c.if-table-destination.false (sym c.if-not-one-group.ensures))
+    sym (over_apart (roots_of w) (sides_of w) (parents_of w) _ _ c.if-table-destination.false (sym c.if-not-one_group.ensures))
 
-pub returns-in-err-side : goal.returns-in-err-side
-returns-in-err-side c =
+pub returns-in_err-side : goal.returns-in_err-side
+returns-in_err-side c =
     let w = c.args.self.now in
-    c.from-residual.ensures
-    ∙ sym (over_on (roots_of w) (sides_of w) (parents_of w) _ _ _ c.if-table-destination.false (sym c.if-not-one-group.ensures) (sym c.side.ensures ∙ c.in-err-side.was))
+    c.from_residual.ensures
+    ∙ sym (over_on (roots_of w) (sides_of w) (parents_of w) _ _ _ c.if-table-destination.false (sym c.if-not-one_group.ensures) (sym c.side.ensures ∙ c.in_err-side.was))
 
 pub returns : goal.returns
 returns c =
     let w = c.args.self.now in
-    sym (over_on (roots_of w) (sides_of w) (parents_of w) _ _ _ c.if-table-destination.false (sym c.if-not-one-group.ensures) (sym c.side.ensures ∙ c.in-ok-side.was))
+    sym (over_on (roots_of w) (sides_of w) (parents_of w) _ _ _ c.if-table-destination.false (sym c.if-not-one_group.ensures) (sym c.side.ensures ∙ c.in_ok-side.was))
