@@ -1,7 +1,6 @@
 -- The notes and ways of a detour over a way-finder.
-use Rattle.std.specs.Prelude.{ℕ, ◌+◌, ◌-◌, ◌*◌, ◌/◌, ◌%◌, Bool, true, false, cond, Some, None, Option, ◌==◌, nat_le}
+use Rattle.std.specs.Prelude.{ℕ, ◌+◌, ◌-◌, ◌*◌, ◌/◌, ◌%◌, Bool, cond, Some, None, Option, ◌==◌, nat_le}
 use Rattle.map.specs.declared.side.Side.{Side}
-use Rattle.ways.specs.declared.finder.WayFinder as WayFinder
 use Rattle.detour.specs.declared.detour.Detour.{Detour}
 use Rattle.detour.specs.declared.vias.Vias.{Vias}
 use Rattle.detour.specs.Vias.{via_for}

@@ -1,5 +1,5 @@
 -- What a change of the vias comes to: one pair's via stands as called for, and every other pair's is as before.
-use Rattle.std.specs.Prelude.{◌≡◌, ℕ, ◌⊎◌, Some, None, Ok, Err, Option, Result}
+use Rattle.std.specs.Prelude.{◌≡◌, ℕ, Ok, Err, Option, Result}
 use Rattle.detour.specs.declared.refusal.Refusal.{Refusal}
 use Rattle.detour.specs.declared.vias.Vias.{Vias}
 use Rattle.detour.specs.Vias.{via_for}

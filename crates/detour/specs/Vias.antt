@@ -1,5 +1,5 @@
 -- The vias that a detour holds.
-use Rattle.std.specs.Prelude.{◌≡◌, ℕ, suc, Bool, true, false, cond, not, ◌&&◌, List, [], ◌∷◌, map, replicate, Some, None, Ok, Err, Option, Result, ◌==◌, slice_set}
+use Rattle.std.specs.Prelude.{ℕ, suc, Bool, false, cond, not, ◌&&◌, List, [], ◌∷◌, map, replicate, Some, None, Ok, Err, Option, Result, ◌==◌, slice_set}
 use Rattle.detour.specs.declared.refusal.Refusal.{Refusal}
 use Rattle.detour.specs.declared.refusal.Refusal.TheVariants.{NotThreeTables, HasVia, NoPlace, NoVia}
 use Rattle.detour.specs.declared.vias.Via.{Via}

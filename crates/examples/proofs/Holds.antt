@@ -1,5 +1,5 @@
 -- The examples hold, by computing both sides.
-use Rattle.std.proofs.Common.{◌≡◌, refl}
+use Rattle.std.proofs.Common.{refl}
 use Rattle.routes.specs.Steps.{steps}
 use Rattle.links.specs.Links.{near}
 use Rattle.links.specs.Distances.{has, put, around, beyond, layer_of, distance}

@@ -1,5 +1,5 @@
 -- Small stores, plans for them, and their answers as rows of numbers.
-use Rattle.std.specs.Prelude.{ℕ, zero, suc, Bool, true, List, [], ◌∷◌, ◌++◌, Some, None, Ok, Err, Option, Result, nat_lt}
+use Rattle.std.specs.Prelude.{ℕ, zero, suc, List, [], ◌∷◌, ◌++◌, Some, None, Ok, Err, Option, Result, nat_lt}
 use Rattle.map.specs.declared.side.Side.{Side}
 use Rattle.map.specs.Sides.{segment}
 use Rattle.map.specs.Layouts.{Layout, head_in}
@@ -11,7 +11,6 @@ use Rattle.routes.specs.declared.refusal.Refusal.{Refusal}
 use Rattle.routes.specs.Refusals.{reason_number}
 use Rattle.routes.specs.Routings.{Routing, by_key}
 use Rattle.plancheck.specs.declared.pass.Pass.{Pass}
-use Rattle.trays.specs.declared.event.Call.{Call}
 use Rattle.trays.specs.declared.event.Event.{Event}
 use Rattle.trays.specs.declared.event.Event.TheVariants.{Refused, Entered, Advanced}
 use Rattle.trays.specs.Refusals.{refusal_number, refusal_segments}

@@ -3,7 +3,6 @@ use Rattle.std.specs.Prelude.{◌≡◌, ℕ, List, [], ◌∷◌, ◌++◌, len
 use Rattle.ways.specs.RowFirsts.{row_first_way}
 use Rattle.links.specs.Ways.{tree_key}
 use Rattle.plancheck.specs.Plans.{plan_check}
-use Rattle.trays.specs.declared.event.Call.{Call}
 use Rattle.trays.specs.declared.event.Call.TheVariants.{Enter, Advance}
 use Rattle.trays.specs.Logs.Log.{start, ◌then◌}
 use Rattle.trays.specs.Outcomes.{no_trays}

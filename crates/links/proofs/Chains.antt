@@ -1,8 +1,8 @@
 -- Chains put together and turned round.
-use Rattle.std.proofs.Common.{◌≡◌, ℕ, suc, ◌+◌, ◌<◌, ◌≤◌, Some, None, Option, sym, refl, subst, arith}
+use Rattle.std.proofs.Common.{◌≡◌, ℕ, suc, ◌+◌, ◌<◌, Some, None, Option, refl, subst, arith}
 use Rattle.map.specs.declared.side.Side.{Side}
 use Rattle.map.specs.Sides.{opposite}
-use Rattle.links.specs.Groups.{Chain, Joined, DepthOf, RootOf}
+use Rattle.links.specs.Groups.{Chain, DepthOf, RootOf}
 use Rattle.links.specs.Groups.Chain.{stay, link}
 
 -- what is over a link on a side is linked back on the opposite side

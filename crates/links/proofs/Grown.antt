@@ -1,6 +1,6 @@
 -- The roots, depths and parents of a map are a tree, and its ways lead where they should.
-use Rattle.std.proofs.Common.{◌≡◌, ℕ, zero, suc, ◌+◌, ◌-◌, ◌<◌, ◌≤◌, Bool, true, false, cond, eqb, ◌⊎◌, is_some, Some, None, Option, sym, refl, ap, ◌∙◌, subst, inl, inr, arith}
-use Rattle.std.proofs.lemmas.Bool.{cases_lt, cases_eq, cases_Bool, both_ways, eq-eqb, ne_eqb, eqb-true, cond-true, cond-false}
+use Rattle.std.proofs.Common.{◌≡◌, ℕ, zero, suc, ◌+◌, ◌-◌, ◌<◌, ◌≤◌, Bool, true, false, eqb, is_some, Some, None, Option, sym, refl, ap, ◌∙◌, subst, inl, inr, arith}
+use Rattle.std.proofs.lemmas.Bool.{cases_lt, cases_eq, cases_Bool, both_ways, eq-eqb, ne_eqb, cond-true, cond-false}
 use Rattle.map.specs.declared.side.Side.{Side}
 use Rattle.map.specs.Sides.{opposite, segment}
 use Rattle.map.specs.Layouts.{Layout}
@@ -9,14 +9,14 @@ use Rattle.links.specs.Groups.{Chain, Joined, DepthOf, RootOf}
 use Rattle.links.specs.Groups.Chain.{stay, link}
 use Rattle.links.specs.Distances.{distance}
 use Rattle.links.specs.Trees.{first_of, lowest, root_of, depth_under, depth_of, or_zero, depth, up_side, over, parent_side, parent_of}
-use Rattle.links.specs.Ways.{child_on, towards, one_group, noted, way_over, tree_way, key_over, tree_key}
+use Rattle.links.specs.Ways.{child_on, towards, one_group, noted, tree_way, key_over, tree_key}
 use Rattle.links.specs.Courses.{Course, Leads, Meaning}
-use Rattle.links.proofs.Chains.{Within, none_some, same_some, append, turned, starts_within, one_depth, one_lowest}
+use Rattle.links.proofs.Chains.{Within, none_some, same_some, append, turned, starts_within}
 use Rattle.links.proofs.Layers.{fewest_of, distance_some, distance_at, distance_none}
 use Rattle.links.proofs.Nearby.{Sized, near_both, near_within, near_beside, near_present, present_small, head_open}
 use Rattle.map.specs.Floors.{beside}
 use Rattle.links.proofs.Lines.{or_self, upper}
-use Rattle.links.proofs.Parents.{TreeOf, one_root, Up, step_up, side_at_root}
+use Rattle.links.proofs.Parents.{TreeOf, one_root, step_up, side_at_root}
 use Rattle.links.proofs.Ranks.{up_key, down_key, key_same}
 use Rattle.links.proofs.Turns.{over_there, over_apart, over_on}
 use Rattle.links.proofs.Trips.{Going, arrives}

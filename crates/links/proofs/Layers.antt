@@ -1,13 +1,12 @@
 -- The number of the layer that has a table is the fewest links to it.
-use Rattle.std.proofs.Common.{◌≡◌, ℕ, zero, suc, ◌+◌, ◌-◌, ◌<◌, ◌≤◌, Bool, true, false, cond, ◌||◌, eqb, ◌⊎◌, List, [], ◌∷◌, ◌++◌, Some, None, Option, sym, refl, ap, ◌∙◌, subst, inl, inr, arith}
+use Rattle.std.proofs.Common.{◌≡◌, ℕ, zero, suc, ◌+◌, ◌<◌, ◌≤◌, true, false, cond, ◌||◌, ◌⊎◌, List, [], ◌∷◌, ◌++◌, Some, None, Option, sym, refl, ap, ◌∙◌, subst, inl, inr, arith}
 use Rattle.std.proofs.lemmas.Bool.{cases_lt, cases_eq, cases_Bool, both_ways, eq-eqb, eqb-true, or_cases, or_parts, or_left, or_right, cond-true, cond-false}
 use Rattle.map.specs.declared.side.Side.{Side}
 use Rattle.map.specs.declared.side.Side.TheVariants.{North, East, South, West}
-use Rattle.map.specs.Sides.{opposite}
 use Rattle.links.specs.Groups.{Chain, Joined, DepthOf}
 use Rattle.links.specs.Groups.Chain.{stay, link}
 use Rattle.links.specs.Distances.{has, put, around, beyond, layer_of, distance}
-use Rattle.links.proofs.Chains.{Within, none_some, same_some, Last, last_link, one_depth, starts_within}
+use Rattle.links.proofs.Chains.{Within, none_some, same_some, last_link, one_depth}
 use Rattle.links.proofs.Covers.{Covers, covered}
 
 abbrev In : ℕ → List ℕ → Type 0

@@ -1,10 +1,10 @@
 -- The parents and ways of a tree are those that the links alone make.
-use Rattle.std.proofs.Common.{◌≡◌, ℕ, zero, suc, ◌+◌, ◌-◌, ◌<◌, ◌≤◌, Bool, true, false, ◌⊎◌, Some, None, Option, sym, refl, ap, ◌∙◌, subst, inl, inr, arith}
+use Rattle.std.proofs.Common.{◌≡◌, ℕ, zero, suc, ◌+◌, ◌-◌, ◌<◌, ◌≤◌, true, false, Some, Option, sym, ap, ◌∙◌, subst, inl, inr, arith}
 use Rattle.std.proofs.lemmas.Bool.{cases_eq, cases_Bool, both_ways, eq-eqb}
 use Rattle.map.specs.declared.side.Side.{Side}
 use Rattle.map.specs.declared.side.Side.TheVariants.{North, East, South, West}
 use Rattle.map.specs.Sides.{side_number, opposite}
-use Rattle.links.specs.Groups.{Chain, Joined, RootOf, DepthOf}
+use Rattle.links.specs.Groups.{Chain, Joined, DepthOf}
 use Rattle.links.specs.Groups.Chain.{stay, link}
 use Rattle.links.specs.Trees.{nearer, up_side, over}
 use Rattle.links.specs.Words.{ParentOf, LineOf, WayOf}

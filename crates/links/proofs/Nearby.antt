@@ -1,12 +1,12 @@
 -- The open links of a floor of at most 16 by 16 lead both ways, between tables of the floor.
-use Rattle.std.proofs.Common.{◌≡◌, ℕ, ◌+◌, ◌-◌, ◌*◌, ◌/◌, ◌%◌, ◌<◌, ◌≤◌, Bool, true, false, cond, not, ◌&&◌, ltb, get_or, Some, None, Option, sym, refl, ap, ◌∙◌, subst, arith}
+use Rattle.std.proofs.Common.{◌≡◌, ℕ, ◌+◌, ◌-◌, ◌/◌, ◌%◌, ◌<◌, ◌≤◌, Bool, true, false, cond, not, ltb, Some, None, Option, refl, ap, ◌∙◌, subst, arith}
 use Rattle.std.proofs.lemmas.Bool.{cond-true, cond-false, and_from, and_parts, both_ways, lt-ltb, ltb-true}
 use Rattle.map.specs.declared.map.Map.{Map}
 use Rattle.map.specs.declared.side.Side.{Side}
 use Rattle.map.specs.declared.side.Side.TheVariants.{North, East, South, West}
 use Rattle.map.specs.Sides.{side_number, side_of, opposite, segment}
-use Rattle.map.specs.Floors.{on_floor, step_to, beside, head_of}
-use Rattle.map.specs.Layouts.{Layout, layout, on_map, beside_in, head_in, table_closed, segment_closed, open_to, open_in, link_to, link_open}
+use Rattle.map.specs.Floors.{on_floor, step_to, beside}
+use Rattle.map.specs.Layouts.{Layout, layout, on_map, beside_in, head_in, table_closed, open_to, open_in, link_to, link_open}
 use Rattle.links.specs.Links.{near, present}
 use Rattle.links.proofs.Chains.{Mutual, Within, none_some, same_some}
 

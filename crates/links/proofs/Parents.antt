@@ -1,10 +1,10 @@
 -- The parent of each table of a tree.
-use Rattle.std.proofs.Common.{◌≡◌, ℕ, zero, suc, ◌+◌, ◌-◌, ◌<◌, ◌≤◌, Bool, true, false, ◌⊎◌, Some, None, Option, sym, refl, ap, ◌∙◌, subst, inl, inr, arith}
+use Rattle.std.proofs.Common.{◌≡◌, ℕ, suc, ◌+◌, ◌<◌, ◌≤◌, true, false, Some, None, Option, sym, refl, ap, ◌∙◌, subst, inl, inr, arith}
 use Rattle.std.proofs.lemmas.Bool.{cases_Bool, both_ways, eq-eqb, eqb-true}
 use Rattle.map.specs.declared.side.Side.{Side}
 use Rattle.map.specs.declared.side.Side.TheVariants.{North, East, South, West}
 use Rattle.map.specs.Sides.{opposite}
-use Rattle.links.specs.Groups.{Chain, Joined, DepthOf, RootOf}
+use Rattle.links.specs.Groups.{Chain, DepthOf, RootOf}
 use Rattle.links.specs.Groups.Chain.{stay, link}
 use Rattle.links.specs.Trees.{nearer, up_side, over}
 use Rattle.links.proofs.Chains.{Mutual, Within, append, turned, starts_within, chain_zero, Last, last_link}

@@ -1,11 +1,9 @@
 -- The keys of the segments on the tree.
-use Rattle.std.proofs.Common.{◌≡◌, ℕ, ◌+◌, ◌-◌, ◌/◌, ◌%◌, ◌<◌, ◌≤◌, Bool, true, false, cond, eqb, ltb, ◌⊎◌, Some, None, Option, sym, refl, ap, ◌∙◌, subst, inl, inr, arith}
-use Rattle.std.proofs.lemmas.Bool.{cases_eq, cases_Bool, cases_lt, both_ways, eq-eqb, eqb-true, lt-ltb, le-ltb, cond-true, cond-false}
+use Rattle.std.proofs.Common.{◌≡◌, ℕ, ◌-◌, ◌/◌, ◌%◌, ◌<◌, true, false, cond, ltb, ◌⊎◌, Some, None, Option, sym, refl, ap, ◌∙◌, inl, inr, arith}
+use Rattle.std.proofs.lemmas.Bool.{cases_eq, cases_Bool, both_ways, eq-eqb, eqb-true, lt-ltb, cond-true, cond-false}
 use Rattle.map.specs.declared.side.Side.{Side}
-use Rattle.map.specs.declared.side.Side.TheVariants.{North, East, South, West}
-use Rattle.map.specs.Sides.{side_number, side_of, opposite, segment}
+use Rattle.map.specs.Sides.{side_of, opposite, segment}
 use Rattle.map.specs.Floors.{beside}
-use Rattle.links.specs.Trees.{over}
 use Rattle.links.specs.Ways.{pair, is_side, key_down, key_at, key_over}
 use Rattle.links.proofs.Chains.{Mutual, Within, none_some, same_some}
 use Rattle.links.proofs.Nearby.{segment_side, segment_table, segment_small, twice, twice_same, beside_back}

@@ -1,23 +1,23 @@
 -- The ways and keys of a map's tree are those that the links alone make.
-use Rattle.std.proofs.Common.{◌≡◌, ℕ, suc, ◌+◌, ◌-◌, ◌<◌, ◌≤◌, Bool, true, false, ◌⊎◌, Some, None, Option, sym, refl, ap, ◌∙◌, subst, inl, inr, arith}
-use Rattle.std.proofs.lemmas.Bool.{cases_eq, cases_Bool, cases_lt, eqb-true, le-ltb, cond-false}
+use Rattle.std.proofs.Common.{◌≡◌, ℕ, suc, ◌-◌, ◌<◌, ◌≤◌, true, false, Some, None, Option, sym, refl, ap, ◌∙◌, subst, inl, inr, arith}
+use Rattle.std.proofs.lemmas.Bool.{cases_eq, cases_Bool, le-ltb, cond-false}
 use Rattle.map.specs.declared.side.Side.{Side}
 use Rattle.map.specs.Sides.{opposite, segment}
 use Rattle.map.specs.Layouts.{Layout}
 use Rattle.links.specs.Links.{near}
-use Rattle.links.specs.Groups.{Joined, RootOf}
-use Rattle.links.specs.Trees.{root_of, depth, parent_side, parent_of}
-use Rattle.links.specs.Ways.{child_on, towards, noted, pair, is_side, key_down, key_over, tree_way, tree_key}
+use Rattle.links.specs.Groups.{Joined}
+use Rattle.links.specs.Trees.{depth, parent_side, parent_of}
+use Rattle.links.specs.Ways.{noted, pair, is_side, key_down, key_over, tree_way, tree_key}
 use Rattle.links.specs.Words.{ParentOf, LineOf, WayOf, WaysMeant, KeysMeant}
 use Rattle.links.specs.Words.LineOf.{itself, upper as higher}
 use Rattle.links.specs.Words.WayOf.{to_child, to_parent}
-use Rattle.links.proofs.Chains.{none_some, same_some, turned}
+use Rattle.links.proofs.Chains.{none_some, same_some}
 use Rattle.links.proofs.Nearby.{Sized, near_both, near_within, twice, present_small}
 use Rattle.links.proofs.Lines.{upper}
-use Rattle.links.proofs.Parents.{Up, one_root, step_up, side_at_root}
+use Rattle.links.proofs.Parents.{one_root, step_up, side_at_root}
 use Rattle.links.proofs.Ranks.{key_at_lem, up_key, down_key, is_only}
-use Rattle.links.proofs.Meanings.{Goes, each_way, only_way, depth_here, side_here, parent_here, parent_of_lem, fits}
-use Rattle.links.proofs.Grown.{root_at, grown, way_is, way_there, no_way, one_group_lem, both_there, joined_back, no_side, keys_are}
+use Rattle.links.proofs.Meanings.{each_way, only_way, depth_here, side_here, parent_here, parent_of_lem}
+use Rattle.links.proofs.Grown.{root_at, grown, way_is, way_there, no_way, one_group_lem, both_there, joined_back, keys_are}
 
 same_note : (a b : Side × ℕ) → Some a ≡ Some b → (a.0 ≡ b.0) × (a.1 ≡ b.1)
 same_note a b e = let is : a ≡ b = same_some a b e in (ap (λ x. x.0) is, ap (λ x. x.1) is)

@@ -1,5 +1,5 @@
 -- The way over a tree, case by case.
-use Rattle.std.proofs.Common.{◌≡◌, ℕ, Bool, true, false, cond, None, Option, ap, ◌∙◌}
+use Rattle.std.proofs.Common.{◌≡◌, ℕ, true, false, None, Option, ap, ◌∙◌}
 use Rattle.std.proofs.lemmas.Bool.{eq-eqb, ne_eqb, cond-true, cond-false}
 use Rattle.map.specs.declared.side.Side.{Side}
 use Rattle.links.specs.Ways.{child_on, towards, one_group, noted, way_over}

@@ -1,5 +1,5 @@
 -- The first side on which the neighbour's depth is one less, test by test.
-use Rattle.std.proofs.Common.{◌≡◌, ℕ, ◌+◌, ◌<◌, Bool, true, false, cond, Some, None, Option, sym, refl, ap, ◌∙◌}
+use Rattle.std.proofs.Common.{◌≡◌, ℕ, Bool, true, false, Some, None, Option, refl}
 use Rattle.map.specs.declared.side.Side.{Side}
 use Rattle.map.specs.declared.side.Side.TheVariants.{North, East, South, West}
 use Rattle.links.specs.Trees.{nearer, up_side}

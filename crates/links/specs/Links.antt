@@ -1,5 +1,5 @@
 -- The open links of a map.
-use Rattle.std.specs.Prelude.{ℕ, Bool, cond, not, ◌&&◌, Some, None, Option}
+use Rattle.std.specs.Prelude.{ℕ, Bool, cond, not, ◌&&◌, None, Option}
 use Rattle.map.specs.declared.side.Side.{Side}
 use Rattle.map.specs.Layouts.{Layout, on_map, beside_in, table_closed, link_open}
 

@@ -1,5 +1,5 @@
 -- The tree's way from table t to table d, and the tree's keys.
-use Rattle.std.specs.Prelude.{ℕ, zero, suc, ◌-◌, ◌/◌, ◌%◌, Bool, false, cond, not, ◌&&◌, Some, None, Option, ◌==◌, nat_lt}
+use Rattle.std.specs.Prelude.{ℕ, zero, suc, ◌-◌, ◌/◌, ◌%◌, Bool, false, cond, Some, None, Option, ◌==◌, nat_lt}
 use Rattle.map.specs.declared.side.Side.{Side}
 use Rattle.map.specs.Sides.{side_number, side_of, opposite}
 use Rattle.map.specs.Layouts.{Layout}

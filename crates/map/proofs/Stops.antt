@@ -1,5 +1,5 @@
 -- Marking and unmarking a table, case by case.
-use Rattle.std.proofs.Common.{◌≡◌, ℕ, ◌+◌, ◌<◌, ◌≤◌, Bool, true, false, cond, length, get_or, set, Ok, Err, sym, refl, ap, ◌∙◌, arith, get_or-set_other, get_or-set_same}
+use Rattle.std.proofs.Common.{◌≡◌, ℕ, ◌<◌, ◌≤◌, Bool, true, false, length, Ok, Err, sym, refl, ap, ◌∙◌, arith, get_or-set_other, get_or-set_same}
 use lib.Seq.{set-get_or}
 use Rattle.std.proofs.lemmas.Bool.{lt-ltb, le-ltb}
 use Rattle.map.specs.declared.refusal.Refusal.TheVariants.{TooManyStops}

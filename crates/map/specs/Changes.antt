@@ -1,5 +1,5 @@
 -- What each change of a map answers, and the map that it leaves.
-use Rattle.std.specs.Prelude.{ℕ, Bool, true, false, cond, ◌&&◌, List, replicate, is_some, Ok, Err, Result, nat_le, nat_lt, slice_set}
+use Rattle.std.specs.Prelude.{ℕ, Bool, true, false, cond, ◌&&◌, replicate, is_some, Ok, Err, Result, nat_le, nat_lt, slice_set}
 use Rattle.map.specs.declared.map.Map.{Map}
 use Rattle.map.specs.declared.refusal.Refusal.{Refusal}
 use Rattle.map.specs.declared.refusal.Refusal.TheVariants.{BadSize, NoTable, NoSegment, TooManyStops}

@@ -1,5 +1,5 @@
 -- How many flags are set.
-use Rattle.std.specs.Prelude.{ℕ, ◌+◌, Bool, true, false, cond, List, [], ◌∷◌}
+use Rattle.std.specs.Prelude.{ℕ, ◌+◌, Bool, cond, List, [], ◌∷◌}
 
 abbrev pub how_many : List Bool → ℕ
 how_many [] = 0

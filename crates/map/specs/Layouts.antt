@@ -1,5 +1,5 @@
 -- What a map holds, and what it answers.
-use Rattle.std.specs.Prelude.{ℕ, ◌/◌, Bool, true, false, not, ◌&&◌, List, Some, None, Option, slice_index_or}
+use Rattle.std.specs.Prelude.{ℕ, ◌/◌, Bool, false, not, ◌&&◌, List, Some, None, Option, slice_index_or}
 use Rattle.map.specs.declared.side.Side.{Side}
 use Rattle.map.specs.declared.map.Map.{Map}
 use Rattle.map.specs.Sides.{opposite, segment}

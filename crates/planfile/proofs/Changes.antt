@@ -1,13 +1,11 @@
 -- A file with one byte changed is refused by the sum of that byte's block.
-use Rattle.std.proofs.Common.{◌≡◌, ℕ, zero, suc, ◌+◌, ◌-◌, ◌*◌, ◌/◌, ◌%◌, ◌<◌, ◌≤◌, min, true, cond, eqb, leb, ◌⊎◌, List, length, get_or, take, drop, Some, None, sym, ap, ◌∙◌, ⊎_elim, arith}
+use Rattle.std.proofs.Common.{◌≡◌, ℕ, zero, suc, ◌+◌, ◌-◌, ◌*◌, ◌/◌, ◌%◌, ◌<◌, ◌≤◌, min, true, cond, eqb, leb, List, length, get_or, drop, Some, None, sym, ap, ◌∙◌, ⊎_elim, arith}
 use Rattle.std.proofs.lemmas.Nat.{div-mul-add, div-add-mod'}
 use Rattle.std.proofs.lemmas.List.{ext_get_or, length-take, length-take-le, length-drop, get_or_past}
 use Rattle.std.proofs.lemmas.Bool.{cases_eq, cases_lt}
 use Rattle.blocks.specs.Changes.{AllBytes, OnlyAt}
-use Rattle.planfile.specs.declared.block.Head.{Head}
 use Rattle.planfile.specs.declared.block.Content.{Content}
 use Rattle.planfile.specs.declared.block.Content.TheVariants.{Stops, Ways, Keys}
-use Rattle.planfile.specs.declared.refusal.Refusal.{Refusal}
 use Rattle.planfile.specs.declared.refusal.Refusal.TheVariants.{BadSum}
 use Rattle.planfile.specs.Outcomes.{block_refusal, file_head, block_at, content_at, refusal_at, first_of, first_from, unless_long, length_fits, read_outcome}
 use Rattle.planfile.specs.Promises.{PlanFile}

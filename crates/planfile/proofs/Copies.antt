@@ -4,7 +4,7 @@ use Rattle.std.proofs.lemmas.List.FromFn.{fill_by_all}
 use Rattle.std.proofs.lemmas.List.{get_or_past}
 use Rattle.std.proofs.lemmas.Bool.{cases_lt}
 use Rattle.planfile.specs.Copies.{SamePlan, copy_of}
-use Rattle.planfile.specs.Plans.{seek, stop_at, place_of, half_of, entry_way, way_to, way_in, key_place, key_in}
+use Rattle.planfile.specs.Plans.{seek, stop_at, place_of, half_of, entry_way, way_to, key_place, key_in}
 
 -- ways and keys are looked up byte by byte, with 0 behind the end
 module _ (file other : List ℕ) (same : (i : ℕ) → get_or other i 0 ≡ get_or file i 0) where

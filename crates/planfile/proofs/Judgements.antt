@@ -1,5 +1,5 @@
 -- A file that is not refused is of the layout, and one of the layout is not refused.
-use Rattle.std.proofs.Common.{◌≡◌, ℕ, zero, suc, ◌+◌, ◌-◌, ◌*◌, ◌%◌, ◌<◌, ◌≤◌, Bool, true, false, eqb, leb, ◌⊎◌, List, length, get_or, drop, Some, None, Option, sym, refl, ap, ◌∙◌, subst, inl, inr, ⊎_elim, arith}
+use Rattle.std.proofs.Common.{◌≡◌, ℕ, zero, suc, ◌+◌, ◌-◌, ◌*◌, ◌%◌, ◌<◌, ◌≤◌, Bool, true, false, leb, ◌⊎◌, List, length, get_or, drop, Some, None, Option, sym, refl, ap, ◌∙◌, subst, inl, inr, ⊎_elim, arith}
 use Rattle.std.proofs.lemmas.Bool.{eq-eqb, eqb-true, eqb-false, le-leb, leb-true, and_from, both_ways, cases_eq, cases_lt}
 use Rattle.blocks.specs.Words.{adds_up}
 use Rattle.planfile.specs.declared.block.Head.{Head}
@@ -8,7 +8,7 @@ use Rattle.planfile.specs.declared.refusal.Refusal.{Refusal}
 use Rattle.planfile.specs.declared.refusal.Refusal.TheVariants.{BadLength, BadSum, BadFront, BadContent}
 use Rattle.planfile.specs.Layouts.{byte_fits, body_fits}
 use Rattle.planfile.specs.Outcomes.{front_fits, judged, block_refusal, file_head, block_at, content_at, refusal_at, first_of, first_from, unless_long, length_fits, read_outcome}
-use Rattle.planfile.specs.Promises.{Front, GoodBlock, GoodAt, PlanFile, GoodBefore, FirstFault}
+use Rattle.planfile.specs.Promises.{GoodBlock, GoodAt, PlanFile, GoodBefore, FirstFault}
 use Rattle.planfile.proofs.Places.{each_of_all, all_of_each, one_fails}
 use Rattle.planfile.proofs.Spots.{in_block}
 use Rattle.planfile.proofs.Verdicts.{same_some, front_fits_lem, front_of, judged_as, none_some, first_none, from_more, from_none, each_good, others_decide}

@@ -1,7 +1,6 @@
 -- A plan is written again with its own keys.
-use Rattle.std.proofs.Common.{◌≡◌, ℕ, ◌+◌, ◌<◌, ◌≤◌, List, ◌++◌, map, length, get_or, drop, IfOk, Ok, Err, Result, refl, ap, ◌∙◌, subst, zero-add, arith, MatchResult}
+use Rattle.std.proofs.Common.{◌≡◌, ℕ, ◌<◌, ◌≤◌, List, ◌++◌, length, get_or, drop, IfOk, Ok, Err, Result, refl, ap, ◌∙◌, subst, zero-add, arith, MatchResult}
 use Rattle.std.proofs.lemmas.List.FromFn.{fill_by_all, length-map-range_with_len, get_or-map-range_with_len}
-use Rattle.std.specs.List.{range_with_len}
 use Rattle.map.specs.Layouts.{Layout}
 use Rattle.blocks.specs.Changes.{AllBytes}
 use Rattle.planfile.specs.declared.refusal.Refusal.{Refusal}

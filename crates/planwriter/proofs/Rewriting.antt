@@ -1,8 +1,8 @@
 -- A plan that was read and is written again gives its bytes again.
-use Rattle.std.proofs.Common.{◌≡◌, ℕ, zero, suc, ◌+◌, ◌-◌, ◌*◌, ◌/◌, ◌%◌, ◌<◌, ◌≤◌, Bool, true, false, cond, not, ◌&&◌, eqb, ltb, leb, ◌⊎◌, List, ◌++◌, length, get_or, take, drop, Option, sym, refl, ap, ◌∙◌, inl, inr, ⊎_elim, arith}
+use Rattle.std.proofs.Common.{◌≡◌, ℕ, zero, suc, ◌+◌, ◌-◌, ◌*◌, ◌/◌, ◌%◌, ◌<◌, ◌≤◌, Bool, true, false, cond, not, ◌&&◌, eqb, leb, ◌⊎◌, List, ◌++◌, length, get_or, take, drop, Option, sym, refl, ap, ◌∙◌, inl, inr, ⊎_elim, arith}
 use Rattle.std.proofs.lemmas.Nat.{div-mul-add, mod-mul-add, div-add-mod'}
 use Rattle.std.proofs.lemmas.List.FromFn.{fill_by_all}
-use Rattle.std.proofs.lemmas.List.{get_or-take, get_or-drop, get_or_past, length-take, length-take-le, length-drop, drop-drop, drop_all, take-append-drop}
+use Rattle.std.proofs.lemmas.List.{get_or-take, get_or-drop, get_or_past, length-take-le, length-drop, drop-drop, drop_all, take-append-drop}
 use Rattle.std.proofs.lemmas.Bool.{cases_eq, cases_lt, eq-eqb, eqb-true, ne_eqb, lt-ltb, le-ltb, le-leb, lt-leb, cond-true, cond-false, and_from, not_from_false, both_ways}
 use Rattle.map.specs.declared.side.Side.{Side}
 use Rattle.map.specs.Floors.{on_floor}
@@ -10,7 +10,6 @@ use Rattle.map.specs.Layouts.{Layout}
 use Rattle.blocks.specs.Words.{closed}
 use Rattle.blocks.specs.Changes.{AllBytes}
 use Rattle.blocks.proofs.Sums.{closed_back}
-use Rattle.planfile.specs.declared.block.Head.{Head}
 use Rattle.planfile.specs.declared.block.Content.{Content}
 use Rattle.planfile.specs.declared.block.Content.TheVariants.{Stops, Ways, Keys}
 use Rattle.planfile.specs.Layouts.{in_body, way_byte_fits, is_there, key_byte_fits, byte_fits}
@@ -22,8 +21,7 @@ use Rattle.planfile.proofs.Contents.{content_ways, content_keys, few, holds, way
 use Rattle.planwriter.specs.Stops.{stops_of}
 use Rattle.planwriter.specs.Files.{Source, entry_number, entry_for, key_for, head_for, source_of, head_byte, way_byte, key_half, key_byte, content_byte, block_byte, block_of, content_of, blocks_from, file_of}
 use Rattle.planwriter.specs.Promises.{SamePlan}
-use Rattle.planwriter.proofs.Spots.{head_with, content_byte_lem}
-use Rattle.planwriter.proofs.Readings.{key_byte_lem}
+use Rattle.planwriter.proofs.Spots.{head_with}
 
 -- the part of a segment, and its place there
 row_is : (j r : ℕ) → r < 128 → (128 * j + r) / 128 ≡ j

@@ -1,5 +1,5 @@
 -- A route by places is a route as a list.
-use Rattle.std.proofs.Common.{◌≡◌, ℕ, zero, suc, ◌+◌, ◌<◌, Bool, true, List, [], ◌∷◌, Some, None, Option, sym, refl, ap, ◌∙◌, subst, arith}
+use Rattle.std.proofs.Common.{◌≡◌, ℕ, zero, suc, ◌+◌, List, Some, sym, ap, ◌∙◌, subst, arith}
 use Rattle.map.specs.Sides.{segment}
 use Rattle.routes.specs.Routings.{Routing}
 use Rattle.routes.specs.Routes.{Course, segments_from}

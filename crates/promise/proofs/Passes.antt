@@ -1,20 +1,16 @@
 -- What a pass is worth.
-use Rattle.std.proofs.Common.{◌≡◌, ℕ, ◌<◌, ◌≤◌, Bool, true, false, cond, not, ◌&&◌, eqb, ◌⊎◌, List, length, Some, None, Ok, Option, sym, refl, ap, ◌∙◌, inl, inr, arith}
+use Rattle.std.proofs.Common.{◌≡◌, ℕ, Bool, true, false, not, ◌&&◌, Some, None, Option, refl, inl, inr, arith}
 use borrow.Author.Tests.{eqb-false}
 use Rattle.std.proofs.lemmas.Bool.{both_ways, cases_lt, le-ltb, cond-false}
-use Rattle.map.specs.Layouts.{is_stop, head_in}
 use Rattle.routes.specs.Routings.{Routing}
 use Rattle.routes.specs.Steps.{route_check}
-use Rattle.routes.specs.Routes.{Route, Exact}
+use Rattle.routes.specs.Routes.{Exact}
 use Rattle.routes.proofs.Limits.{Proper}
 use Rattle.routes.proofs.Exactly.{exact}
-use Rattle.plancheck.specs.declared.pass.Pass.{Pass}
-use Rattle.plancheck.specs.Plans.{plan_check}
 use Rattle.plancheck.proofs.Decides.{passes, longest_bounds}
-use Rattle.trays.specs.Sites.{two_stops}
-use Rattle.trays.proofs.Ahead.{Routed, Within, Small, Strict}
+use Rattle.trays.proofs.Ahead.{Routed, Within, Small}
 use Rattle.trays.proofs.Keeps.{promised}
-use Rattle.promise.specs.Floors.{site_for, Flows, FlowsAfterPass}
+use Rattle.promise.specs.Floors.{site_for, FlowsAfterPass}
 use Rattle.promise.proofs.Courses.{listed}
 
 three : (x y z : Bool) → ((x && y) && not z) ≡ true → (x ≡ true) × (y ≡ true) × (z ≡ false)

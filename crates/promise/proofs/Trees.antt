@@ -1,18 +1,17 @@
 -- The check passes the tree plan exactly where open links join every two stops.
-use Rattle.std.proofs.Common.{◌≡◌, ℕ, zero, suc, ◌+◌, ◌<◌, ◌≤◌, Bool, true, false, cond, ◌&&◌, ◌||◌, eqb, ltb, ◌⊎◌, List, [], length, is_ok, Some, None, Ok, Err, Option, Result, sym, refl, ap, ◌∙◌, subst, inl, inr, arith, ltb-true, eqb-true}
+use Rattle.std.proofs.Common.{◌≡◌, ℕ, ◌+◌, ◌<◌, ◌≤◌, Bool, true, false, ◌&&◌, ◌||◌, eqb, ◌⊎◌, List, [], length, is_ok, Some, None, Ok, Err, Option, Result, sym, refl, ap, ◌∙◌, inl, inr, arith, ltb-true, eqb-true}
 use borrow.Author.Tests.{eqb-false}
-use Rattle.std.proofs.lemmas.Bool.{both_ways, cases_Bool, cases_eq, cases_lt, eq-eqb, ne_eqb, lt-ltb, le-ltb}
+use Rattle.std.proofs.lemmas.Bool.{both_ways, cases_Bool, eq-eqb, lt-ltb, le-ltb}
 use Rattle.map.specs.declared.side.Side.{Side}
-use Rattle.map.specs.Sides.{segment}
 use Rattle.map.specs.declared.map.Map.{Map}
 use Rattle.map.specs.Layouts.{Layout, layout, is_stop}
 use Rattle.map.specs.Rules.{Lawful}
 use Rattle.orders.specs.declared.key.Pair.{Pair}
 use Rattle.links.specs.Links.{near}
-use Rattle.links.specs.Groups.{Chain, Joined, DepthOf}
-use Rattle.links.specs.Trees.{root_of, parent_side, parent_of}
-use Rattle.links.specs.Ways.{one_group, noted, towards, child_on, way_over, tree_way, tree_key}
-use Rattle.links.specs.Courses.{pair_before, Course, Leads, Meaning}
+use Rattle.links.specs.Groups.{Chain, Joined}
+use Rattle.links.specs.Trees.{root_of}
+use Rattle.links.specs.Ways.{one_group, way_over, tree_way, tree_key}
+use Rattle.links.specs.Courses.{pair_before, Course}
 use Rattle.links.proofs.Nearby.{Sized, near_both}
 use Rattle.links.proofs.Chains.{append, turned}
 use Rattle.links.proofs.Grown.{meaning, leads}
@@ -23,7 +22,7 @@ use Rattle.routes.proofs.Limits.{Proper}
 use Rattle.plancheck.specs.declared.pass.Pass.{Pass}
 use Rattle.plancheck.specs.Pairs.{wanted_pairs}
 use Rattle.plancheck.specs.Plans.{plan_check}
-use Rattle.plancheck.specs.Decisions.{Passed, Decided, all_segments, longest_route}
+use Rattle.plancheck.specs.Decisions.{all_segments, longest_route}
 use Rattle.plancheck.proofs.Decides.{passes, decided}
 use Rattle.trays.proofs.Lists.{none_some}
 use Rattle.promise.specs.Trees.{tree_routing, StopsJoined, TreePasses, EveryTreePasses}

@@ -1,5 +1,5 @@
 -- On every map the check passes the tree plan exactly where open links join every two stops.
-use Rattle.std.specs.Prelude.{◌≡◌, ℕ, Bool, true, ◌↔◌, is_ok, ◌≢◌}
+use Rattle.std.specs.Prelude.{◌≡◌, ℕ, true, ◌↔◌, is_ok, ◌≢◌}
 use Rattle.map.specs.Layouts.{Layout, is_stop}
 use Rattle.map.specs.Rules.{Lawful}
 use Rattle.links.specs.Links.{near}

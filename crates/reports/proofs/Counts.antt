@@ -1,5 +1,5 @@
 -- Counting up one number at a time.
-use Rattle.std.proofs.Common.{◌≡◌, ℕ, suc, ◌+◌, Bool, true, false, cond, sym, refl, ap, ◌∙◌, add-one, arith}
+use Rattle.std.proofs.Common.{◌≡◌, ℕ, ◌+◌, Bool, true, false, cond, refl, ap, ◌∙◌, add-one, arith}
 use Rattle.reports.specs.Numbers.{how_many_below}
 
 pub none_below : (f : ℕ → Bool) → 0 ≡ how_many_below f 0

@@ -1,5 +1,5 @@
 -- The written answer of a route's check, step by step.
-use Rattle.std.specs.Prelude.{ℕ, zero, suc, ◌+◌, Bool, true, false, cond, Some, None, Ok, Err, Option, Result, ◌==◌}
+use Rattle.std.specs.Prelude.{ℕ, zero, suc, ◌+◌, cond, Some, None, Ok, Err, Option, Result, ◌==◌}
 use Rattle.map.specs.declared.side.Side.{Side}
 use Rattle.map.specs.Sides.{segment}
 use Rattle.map.specs.Layouts.{head_in, open_in}

@@ -1,5 +1,5 @@
 -- Words read one after the other: two tables, a part by its kind, a call by its verb.
-use Rattle.std.proofs.Common.{◌≡◌, ℕ, ◌≤◌, List, [], ◌∷◌, length, Some, None, Ok, Err, Option, Result, sym, refl, ap, ◌∙◌}
+use Rattle.std.proofs.Common.{◌≡◌, ℕ, ◌≤◌, List, length, Some, None, Ok, Err, Result, sym, refl, ap, ◌∙◌}
 use Rattle.script.specs.declared.call.Fault.{Fault}
 use Rattle.script.specs.declared.call.Fault.TheVariants.{NoSuchCall}
 use Rattle.script.specs.declared.call.Call.{Call}
@@ -9,7 +9,7 @@ use Rattle.script.specs.declared.verb.Kind.{Kind}
 use Rattle.script.specs.declared.parts.Part.{Part}
 use Rattle.script.specs.Verbs.{verb_of, kind_of, plan_named}
 use Rattle.script.specs.Calls.{call_by, call_from, call_of}
-use Rattle.script.specs.Parts.{texts, table_of, into, then, nothing, both_tables, two_tables, three_tables, part_by, part_of, plan_by, plan_of}
+use Rattle.script.specs.Parts.{texts, table_of, into, then, nothing, two_tables, three_tables, part_by, part_of, plan_by, plan_of}
 use Rattle.script.proofs.Words.{Word, word_at, rest, first_word, two_words, three_words}
 
 pub both_read : (d : Word) (ws : List Word) (p q : Result ℕ Fault) → length ws ≡ 2 → p ≡ table_of (word_at ws 0 d) → q ≡ table_of (word_at ws 1 d)

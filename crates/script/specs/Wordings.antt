@@ -2,7 +2,6 @@
 use Rattle.std.specs.Prelude.{◌≡◌, ℕ, ◌<◌, List, [], ◌∷◌, Ok, codes, decimal}
 use Rattle.script.specs.declared.call.Call.{Call}
 use Rattle.script.specs.declared.call.Call.TheVariants.{MakeMap, ChangeMap, DrawMap, ChoosePlan, AddDetour, ChangeVias, CheckPlan, OpenFloor, UseFloor}
-use Rattle.script.specs.declared.call.Change.{Change}
 use Rattle.script.specs.declared.call.Change.TheVariants.{MarkStop, UnmarkStop, CloseTable, ReopenTable, CloseSegment, ReopenSegment}
 use Rattle.script.specs.declared.call.PlanKind.TheVariants.{RowFirst, Tree}
 use Rattle.script.specs.declared.call.ViaChange.TheVariants.{AddVia, RemoveVia}

@@ -1,5 +1,5 @@
 -- A route as a list: what a tray has ahead of it.
-use Rattle.std.proofs.Common.{◌≡◌, ℕ, ◌<◌, ◌≤◌, Bool, true, false, List, [], ◌∷◌, length, Some, None, Option}
+use Rattle.std.proofs.Common.{◌≡◌, ℕ, ◌<◌, ◌≤◌, Bool, true, false, List, [], ◌∷◌, length, Some}
 use Rattle.trays.specs.Sites.{Site, two_stops}
 
 module _ (s : Site) (rises : ℕ → ℕ → Bool) (d : ℕ) where

@@ -1,26 +1,25 @@
 -- Each accepted advance leaves one segment less to go.
-use Rattle.std.proofs.Common.{◌≡◌, ℕ, zero, suc, ◌+◌, ◌<◌, ◌≤◌, Bool, true, false, eqb, List, [], ◌∷◌, length, get_or, drop, is_some, Some, None, Option, sym, refl, ap, ◌∙◌, arith}
+use Rattle.std.proofs.Common.{◌≡◌, ℕ, suc, ◌+◌, Bool, false, eqb, List, [], ◌∷◌, length, get_or, drop, Some, None, sym, refl, ap, ◌∙◌, arith}
 use Rattle.std.proofs.lemmas.Bool.{eq-eqb, ne_eqb}
 use Rattle.trays.specs.Logs.{Log, joined, each}
 use Rattle.trays.specs.Logs.Log.{start, ◌then◌}
 use Rattle.trays.specs.declared.tray.Tray.{Tray}
 use Rattle.trays.specs.declared.trays.Trays.{Trays}
-use Rattle.trays.specs.declared.event.Call.{Call}
-use Rattle.trays.specs.declared.event.Call.TheVariants.{Enter, Advance}
+use Rattle.trays.specs.declared.event.Call.TheVariants.{Advance}
 use Rattle.trays.specs.declared.event.Event.{Event}
 use Rattle.trays.specs.Sites.{Site}
 use Rattle.trays.specs.Outcomes.{Move, more, move, move_told}
-use Rattle.trays.specs.Runs.{advancing, event, later, after, history}
-use Rattle.trays.specs.declared.event.Event.TheVariants.{Refused, Entered, Advanced}
+use Rattle.trays.specs.Runs.{advancing, event, after, history}
+use Rattle.trays.specs.declared.event.Event.TheVariants.{Advanced}
 use Rattle.trays.specs.Outcomes.Move.{refuses, leaves, goes}
-use Rattle.trays.proofs.Ahead.{Ahead, Routed, Small}
-use Rattle.trays.specs.Words.{let_in, pair_of, advances_of, left_from, one, accepted, advances_in, sum_to, sum_over, to_go}
+use Rattle.trays.proofs.Ahead.{Routed, Small}
+use Rattle.trays.specs.Words.{let_in, pair_of, advances_of, left_from, one, accepted, advances_in, sum_over, to_go}
 use Rattle.trays.proofs.Lists.{drop_tail}
 use Rattle.trays.proofs.Sums.{sum_fall}
 use Rattle.trays.proofs.Says.{range}
 use Rattle.trays.proofs.Views.{Asked, Moves, of_move}
 use Rattle.trays.proofs.Ways.{ends, goes_on}
-use Rattle.trays.proofs.Agrees.{Agrees, Rider, rider}
+use Rattle.trays.proofs.Agrees.{Agrees, rider}
 use Rattle.trays.proofs.Steps.{step_kept}
 
 module _ (routes : ℕ → ℕ → List ℕ) where

@@ -1,5 +1,5 @@
 -- What is promised is kept.
-use Rattle.std.proofs.Common.{◌≡◌, ℕ, zero, suc, ◌+◌, ◌-◌, ◌<◌, ◌≤◌, Bool, true, false, not, ◌&&◌, ◌⊎◌, List, [], ◌∷◌, length, get_or, drop, replicate, is_some, Some, None, Ok, Err, Option, Result, sym, refl, ap, ◌∙◌, ap₂, inl, inr, arith}
+use Rattle.std.proofs.Common.{◌≡◌, ℕ, zero, suc, ◌+◌, ◌-◌, ◌<◌, Bool, true, false, not, ◌&&◌, List, ◌∷◌, length, get_or, replicate, is_some, Some, None, Ok, Err, Option, Result, sym, refl, ap, ◌∙◌, ap₂, inl, inr, arith}
 use lib.ListN.{length-replicate}
 use Rattle.std.proofs.lemmas.Bool.{both_ways, cases_Bool}
 use Rattle.trays.specs.Logs.{Log, joined, each}
@@ -15,18 +15,17 @@ use Rattle.trays.specs.Outcomes.{Move, no_trays, look_outcome, enter_told, enter
 use Rattle.trays.specs.Runs.{event, later, after, history, entering, advancing}
 use Rattle.trays.specs.Outcomes.Move.{refuses, leaves, goes}
 use Rattle.trays.proofs.Ahead.{Routed, Within, Small, Strict}
-use Rattle.trays.specs.Words.{let_in, pair_of, advances_of, left_from, segment_of, is_delivered, on_floor, one, sum_to, sum_over, number, remaining, to_go, advances_in, accepted}
-use Rattle.trays.specs.Lefts.{left_outcome}
+use Rattle.trays.specs.Words.{let_in, pair_of, advances_of, left_from, segment_of, is_delivered, on_floor, one, number, remaining, to_go, accepted}
 use Rattle.trays.specs.Promises.{CanAdvance, Alone, Arrived, Counted, Kept, Empty, Empties, Promised}
 use Rattle.trays.proofs.Lists.{none_some, some_same, drop_long}
 use Rattle.trays.proofs.Ways.{leads}
 use Rattle.trays.proofs.Walks.{left_tells, ahead_onward}
 use Rattle.trays.proofs.Sums.{sum_either, sum_none, sum_holds, sum_some}
 use Rattle.trays.proofs.Says.{known, range}
-use Rattle.trays.proofs.Agrees.{Rides, Tale, Held, Agrees}
+use Rattle.trays.proofs.Agrees.{Rides, Tale, Agrees}
 use Rattle.trays.proofs.Steps.{step_kept}
 use Rattle.trays.proofs.Tops.{can_advance}
-use Rattle.trays.proofs.Falls.{total, riding_to_go, advance_falls, Ran, ran}
+use Rattle.trays.proofs.Falls.{total, riding_to_go, advance_falls, ran}
 
 bare : (n p : ℕ) → ◌≡◌ {A = Option Tray} (get_or (replicate n None) p None) None
 bare zero p = refl

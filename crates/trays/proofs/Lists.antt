@@ -1,5 +1,5 @@
 -- Lists of records and of segments.
-use Rattle.std.proofs.Common.{◌≡◌, ℕ, zero, suc, ◌+◌, ◌<◌, ◌≤◌, List, [], ◌∷◌, length, get_or, drop, set, Some, None, Option, sym, refl, ap, ◌∙◌, arith, length-drop}
+use Rattle.std.proofs.Common.{◌≡◌, ℕ, zero, suc, ◌+◌, ◌<◌, List, [], ◌∷◌, length, get_or, drop, set, Some, None, Option, refl, ap, arith, length-drop}
 
 module _ {A : Type 0} where
   pub none_some : (x : Option A) (a : A) → x ≡ None → x ≡ Some a → ⊥

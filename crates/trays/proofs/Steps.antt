@@ -1,8 +1,8 @@
 -- Each call leaves the records in agreement with the history.
-use Rattle.std.proofs.Common.{◌≡◌, ℕ, zero, suc, ◌+◌, ◌<◌, ◌≤◌, min, Bool, true, false, cond, eqb, ltb, ◌⊎◌, List, [], ◌∷◌, length, get_or, drop, set, is_some, Some, None, Ok, Err, Option, Result, sym, refl, ap, ◌∙◌, subst, inl, inr, arith, length-set, get_or-set_other, get_or-set_same}
-use Rattle.std.proofs.lemmas.Bool.{both_ways, cases_eq, eq-eqb, ne_eqb, lt-ltb, le-ltb, cases_lt}
+use Rattle.std.proofs.Common.{◌≡◌, ℕ, suc, ◌+◌, ◌<◌, ◌≤◌, min, Bool, true, false, eqb, List, [], ◌∷◌, length, get_or, set, is_some, Some, None, Ok, Err, Option, Result, sym, refl, ap, ◌∙◌, inl, inr, arith, length-set, get_or-set_other, get_or-set_same}
+use Rattle.std.proofs.lemmas.Bool.{cases_eq, eq-eqb, ne_eqb, lt-ltb, le-ltb, cases_lt}
 use Rattle.trays.specs.Logs.{Log}
-use Rattle.trays.specs.Logs.Log.{start, ◌then◌}
+use Rattle.trays.specs.Logs.Log.{◌then◌}
 use Rattle.trays.specs.declared.tray.Tray.{Tray}
 use Rattle.trays.specs.declared.trays.Trays.{Trays}
 use Rattle.trays.specs.declared.event.Call.{Call}
@@ -10,18 +10,18 @@ use Rattle.trays.specs.declared.event.Call.TheVariants.{Enter, Advance}
 use Rattle.trays.specs.declared.refusal.Refusal.{Refusal}
 use Rattle.trays.specs.declared.event.Event.{Event}
 use Rattle.trays.specs.Sites.{Site, two_stops}
-use Rattle.trays.specs.Outcomes.{Move, more, moved, entry, enter_told, enter_done, move, move_told, move_done, no_trays}
-use Rattle.trays.specs.Runs.{entering, advancing, event, later, after, history}
+use Rattle.trays.specs.Outcomes.{Move, more, moved, enter_told, enter_done, move_told, move_done}
+use Rattle.trays.specs.Runs.{entering, advancing, event, later}
 use Rattle.trays.specs.declared.event.Event.TheVariants.{Refused, Entered, Advanced}
 use Rattle.trays.specs.Outcomes.Move.{refuses, leaves, goes}
-use Rattle.trays.proofs.Ahead.{Ahead, Route, Routed}
-use Rattle.trays.specs.Words.{let_in, pair_of, advances_of, left_from, segment_of, is_delivered, one, sum_to, number}
-use Rattle.trays.proofs.Lists.{none_some, some_same, set_none, some_in, drop_tail, drop_long}
+use Rattle.trays.proofs.Ahead.{Route, Routed}
+use Rattle.trays.specs.Words.{let_in, pair_of, advances_of, left_from, segment_of, is_delivered, one, number}
+use Rattle.trays.proofs.Lists.{none_some, some_same, set_none, drop_tail, drop_long}
 use Rattle.trays.proofs.Sums.{sum_same, sum_fall, sum_small}
 use Rattle.trays.proofs.Says.{fresh, range}
 use Rattle.trays.proofs.Views.{Asked, Enters, of_entry, Moves, of_move}
-use Rattle.trays.proofs.Ways.{Starts, begins, ends, leads, goes_on}
-use Rattle.trays.proofs.Agrees.{Rides, Tale, Held, Agrees, tale_stays, tale_fresh, Rider, rider, apart}
+use Rattle.trays.proofs.Ways.{begins, ends, goes_on}
+use Rattle.trays.proofs.Agrees.{Tale, Held, Agrees, tale_stays, tale_fresh, rider, apart}
 
 more_min : (k : ℕ) → more 65535 (min k 65535) ≡ min (suc k) 65535
 more_min k =

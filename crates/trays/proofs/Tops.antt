@@ -1,20 +1,19 @@
 -- Some tray can go on.
-use Rattle.std.proofs.Common.{◌≡◌, ℕ, zero, suc, ◌<◌, ◌≤◌, Bool, true, false, eqb, ◌⊎◌, List, [], ◌∷◌, length, get_or, is_some, Some, None, Option, sym, refl, ap, ◌∙◌, inl, inr, arith}
-use Rattle.std.proofs.lemmas.Bool.{both_ways, cases_Bool, cases_lt, cases_eq, eq-eqb, ne_eqb}
+use Rattle.std.proofs.Common.{◌≡◌, ℕ, zero, suc, ◌<◌, Bool, true, false, ◌⊎◌, List, [], ◌∷◌, length, get_or, Some, None, Option, sym, refl, ap, ◌∙◌, inl, inr, arith}
+use Rattle.std.proofs.lemmas.Bool.{both_ways, cases_Bool, cases_lt, eq-eqb, ne_eqb}
 use Rattle.trays.specs.Logs.{Log}
-use Rattle.trays.specs.Logs.Log.{start, ◌then◌}
 use Rattle.trays.specs.declared.tray.Tray.{Tray}
 use Rattle.trays.specs.declared.trays.Trays.{Trays}
-use Rattle.trays.specs.declared.event.Call.TheVariants.{Enter, Advance}
+use Rattle.trays.specs.declared.event.Call.TheVariants.{Advance}
 use Rattle.trays.specs.declared.event.Event.{Event}
 use Rattle.trays.specs.Sites.{Site}
 use Rattle.trays.specs.Runs.{event}
 use Rattle.trays.proofs.Ahead.{Ahead, Strict}
-use Rattle.trays.specs.Words.{pair_of, advances_of, accepted}
+use Rattle.trays.specs.Words.{accepted}
 use Rattle.trays.specs.Promises.{CanAdvance}
-use Rattle.trays.proofs.Lists.{none_some, some_same, some_in}
+use Rattle.trays.proofs.Lists.{none_some, some_in}
 use Rattle.trays.proofs.Ways.{leads}
-use Rattle.trays.proofs.Agrees.{Agrees, Rider, rider}
+use Rattle.trays.proofs.Agrees.{Agrees, rider}
 
 module _ (rises : ℕ → ℕ → Bool) (strict : Strict rises) (xs : List (Option Tray)) where
   -- a tray whose segment is below that of none of the first k

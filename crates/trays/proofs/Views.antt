@@ -1,5 +1,5 @@
 -- What an accepted call has found.
-use Rattle.std.proofs.Common.{◌≡◌, ℕ, ◌<◌, Bool, true, false, eqb, ltb, get_or, Some, None, Ok, Err, Option, Result, sym, refl, ap, ◌∙◌, ltb-true, eqb-true}
+use Rattle.std.proofs.Common.{◌≡◌, ℕ, ◌<◌, Bool, true, false, eqb, ltb, get_or, Some, None, Ok, Err, Option, Result, refl, ap, ◌∙◌, ltb-true, eqb-true}
 use borrow.Author.Tests.{eqb-false}
 use Rattle.trays.specs.declared.tray.Tray.{Tray}
 use Rattle.trays.specs.declared.trays.Trays.{Trays}

@@ -1,5 +1,5 @@
 -- A route, segment by segment.
-use Rattle.std.proofs.Common.{◌≡◌, ℕ, Bool, true, false, List, [], ◌∷◌, Some, None, Option, sym, refl, ap, ◌∙◌, subst, ap₂, arith}
+use Rattle.std.proofs.Common.{◌≡◌, ℕ, Bool, List, [], ◌∷◌, Some, sym, refl, ap, ◌∙◌, subst, ap₂}
 use Rattle.trays.specs.Sites.{Site}
 use Rattle.trays.proofs.Ahead.{Ahead, Route}
 use Rattle.trays.proofs.Lists.{some_same}

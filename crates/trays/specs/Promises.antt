@@ -1,9 +1,9 @@
 -- What is promised after every list of calls, given each pair's route and the length of the longest.
-use Rattle.std.specs.Prelude.{◌≡◌, ℕ, ◌+◌, ◌≤◌, min, Bool, true, false, ◌↔◌, List, [], ◌∷◌, length, Some, None, Ok, Err, Option}
+use Rattle.std.specs.Prelude.{◌≡◌, ℕ, ◌+◌, ◌≤◌, min, true, false, ◌↔◌, List, ◌∷◌, length, Some, Ok}
 use Rattle.trays.specs.declared.tray.Tray.{Tray}
 use Rattle.trays.specs.declared.trays.Trays.{Trays}
 use Rattle.trays.specs.declared.event.Call.{Call}
-use Rattle.trays.specs.declared.event.Call.TheVariants.{Enter, Advance}
+use Rattle.trays.specs.declared.event.Call.TheVariants.{Advance}
 use Rattle.trays.specs.declared.event.Event.{Event}
 use Rattle.trays.specs.Logs.{Log, joined, each}
 use Rattle.trays.specs.Sites.{Site}

@@ -1,5 +1,5 @@
 -- What a history says of each tray.
-use Rattle.std.specs.Prelude.{ℕ, zero, suc, ◌+◌, Bool, true, false, cond, not, ◌&&◌, List, [], ◌∷◌, length, drop, is_some, Some, None, Option, ◌==◌}
+use Rattle.std.specs.Prelude.{ℕ, zero, suc, ◌+◌, Bool, true, false, cond, not, ◌&&◌, List, [], length, drop, is_some, Some, None, Option, ◌==◌}
 use Rattle.trays.specs.Logs.{Log}
 use Rattle.trays.specs.Logs.Log.{start, ◌then◌}
 use Rattle.trays.specs.declared.event.Event.{Event}

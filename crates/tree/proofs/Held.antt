@@ -1,5 +1,5 @@
 -- A tree that holds what its map has gives the map's ways and keys.
-use Rattle.std.proofs.Common.{◌≡◌, ℕ, ◌<◌, ◌≤◌, List, get_or, None, Option, sym, refl, ap, ◌∙◌}
+use Rattle.std.proofs.Common.{◌≡◌, ℕ, List, get_or, None, Option, sym, ap, ◌∙◌}
 use mathlib.Core.Path.{fun_ext}
 use Rattle.map.specs.declared.side.Side.{Side}
 use Rattle.map.specs.Floors.{beside}
@@ -10,7 +10,7 @@ use Rattle.links.specs.Ways.{way_over, tree_way, key_over, tree_key}
 use Rattle.links.proofs.Nearby.{Sized}
 use Rattle.links.proofs.Grown.{no_side, no_parent, sides_are, parents_are, keys_large}
 use Rattle.tree.specs.declared.tree.Tree.{Tree}
-use Rattle.tree.specs.Finders.{Filled, number_at, roots_of, depths_of, sides_of, parents_of, Holds, way_by, key_by}
+use Rattle.tree.specs.Finders.{Filled, number_at, sides_of, parents_of, Holds, way_by, key_by}
 use Rattle.tree.proofs.Fills.{filled_all}
 
 module _ (m : Layout) (size : Sized m) where

@@ -1,6 +1,5 @@
 -- Counting the tables that have no root yet.
-use Rattle.std.proofs.Common.{◌≡◌, ℕ, zero, suc, ◌+◌, ◌<◌, ◌≤◌, Bool, true, false, cond, List, [], ◌∷◌, length, get_or, set, replicate, is_some, Some, None, Option, sym, refl, ap, ◌∙◌, arith}
-use Rattle.links.proofs.Chains.{none_some}
+use Rattle.std.proofs.Common.{◌≡◌, ℕ, zero, suc, ◌+◌, ◌<◌, cond, List, [], ◌∷◌, length, get_or, set, replicate, is_some, Some, None, Option, refl, ap, arith}
 use Rattle.tree.specs.Growths.{missing}
 
 pub missing_all : (n : ℕ) → missing (replicate n None) ≡ n

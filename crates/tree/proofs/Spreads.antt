@@ -1,5 +1,5 @@
 -- Each step of the search keeps what holds of the tables reached.
-use Rattle.std.proofs.Common.{◌≡◌, ℕ, zero, suc, ◌+◌, ◌-◌, ◌<◌, ◌≤◌, Bool, true, false, cond, ◌⊎◌, length, get_or, set, Some, None, Option, sym, refl, ap, ◌∙◌, subst, inl, inr, arith}
+use Rattle.std.proofs.Common.{◌≡◌, ℕ, suc, ◌+◌, ◌<◌, ◌≤◌, true, ◌⊎◌, Some, None, sym, refl, ap, ◌∙◌, subst, inl, inr, arith}
 use Rattle.std.proofs.lemmas.Bool.{cases_eq, cases_lt}
 use Rattle.std.proofs.lemmas.List.{length-set, get_or-set_same, get_or-set_other}
 use Rattle.map.specs.declared.side.Side.{Side}
@@ -7,12 +7,12 @@ use Rattle.map.specs.declared.side.Side.TheVariants.{North, East, South, West}
 use Rattle.map.specs.Sides.{opposite}
 use Rattle.map.specs.Layouts.{Layout}
 use Rattle.links.specs.Links.{near, present}
-use Rattle.links.specs.Groups.{Chain, Joined, RootOf, DepthOf}
+use Rattle.links.specs.Groups.{Chain, RootOf}
 use Rattle.links.specs.Groups.Chain.{stay, link}
 use Rattle.links.proofs.Chains.{none_some, same_some}
 use Rattle.links.proofs.Nearby.{Sized, near_both, near_within, near_present}
 use Rattle.tree.specs.declared.growth.Growth.{Growth}
-use Rattle.tree.specs.Growths.{root_in, depth_in, placed, missing, reached, From, Sound, Spreading, Seen, Kept}
+use Rattle.tree.specs.Growths.{root_in, depth_in, placed, reached, From, Sound, Spreading, Seen, Kept}
 use Rattle.tree.proofs.Missing.{missing_set}
 
 -- the root is the table itself, or it was reached before

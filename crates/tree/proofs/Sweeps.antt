@@ -1,18 +1,18 @@
 -- Spreading from each table in turn that was not reached gives the roots and depths of the map.
-use Rattle.std.proofs.Common.{◌≡◌, ℕ, zero, suc, ◌+◌, ◌-◌, ◌<◌, ◌≤◌, Bool, true, false, ◌⊎◌, length, get_or, replicate, Some, None, Option, sym, refl, ap, ◌∙◌, subst, inl, inr, arith, below_more}
-use Rattle.std.proofs.lemmas.Bool.{cases_eq, cases_lt, cases_Bool, both_ways}
-use Rattle.std.proofs.lemmas.List.{length-replicate, get_or_past}
+use Rattle.std.proofs.Common.{◌≡◌, ℕ, ◌+◌, ◌<◌, ◌≤◌, true, false, replicate, Some, None, Option, sym, refl, ap, ◌∙◌, subst, inl, inr, arith, below_more}
+use Rattle.std.proofs.lemmas.Bool.{cases_lt, cases_Bool, both_ways}
+use Rattle.std.proofs.lemmas.List.{length-replicate}
 use Rattle.map.specs.declared.side.Side.{Side}
 use Rattle.map.specs.Layouts.{Layout}
 use Rattle.links.specs.Links.{near, present}
-use Rattle.links.specs.Groups.{Chain, Joined, RootOf, DepthOf}
+use Rattle.links.specs.Groups.{Chain, RootOf, DepthOf}
 use Rattle.links.specs.Groups.Chain.{stay, link}
-use Rattle.links.specs.Trees.{root_of, depth_of, or_zero, depth}
-use Rattle.links.proofs.Chains.{none_some, same_some, append, turned, one_depth, one_lowest}
+use Rattle.links.specs.Trees.{root_of, depth}
+use Rattle.links.proofs.Chains.{none_some, append, turned, one_depth, one_lowest}
 use Rattle.links.proofs.Nearby.{Sized, near_both, present_small}
 use Rattle.links.proofs.Grown.{root_present, root_absent, depth_some, depth_is, depth_none, alone}
 use Rattle.tree.specs.declared.growth.Growth.{Growth}
-use Rattle.tree.specs.Growths.{root_in, depth_in, placed, missing, From, Sound, Kept}
+use Rattle.tree.specs.Growths.{root_in, depth_in, From, Sound, Kept}
 use Rattle.tree.proofs.Missing.{missing_all, none_at, zero_at}
 
 -- the groups of the tables below i are reached

@@ -1,5 +1,5 @@
 -- The tables of a map reached so far by spreading from root after root, each group breadth-first.
-use Rattle.std.specs.Prelude.{◌≡◌, ℕ, suc, ◌+◌, ◌<◌, ◌≤◌, Bool, true, cond, not, List, [], ◌∷◌, length, is_some, Some, None, Option, slice_index, slice_index_or, slice_set}
+use Rattle.std.specs.Prelude.{◌≡◌, ℕ, ◌+◌, ◌<◌, ◌≤◌, true, cond, List, [], ◌∷◌, length, is_some, Some, None, Option, slice_index, slice_index_or, slice_set}
 use Rattle.map.specs.declared.side.Side.{Side}
 use Rattle.map.specs.Layouts.{Layout}
 use Rattle.links.specs.Links.{near, present}

@@ -1,4 +1,4 @@
-use Rattle.std.proofs.Common.{◌≡◌, is_ok, sym, refl, ap, ◌∙◌, subst}
+use Rattle.std.proofs.Common.{is_ok, sym, ap, ◌∙◌}
 use Rattle.map.specs.Layouts.{layout}
 use Rattle.plancheck.specs.Plans.{plan_check}
 use Rattle.tree.specs.Finders.{way_by, key_by}

@@ -1,4 +1,4 @@
-use Rattle.std.proofs.Common.{sym, refl, ap, ◌∙◌, arith}
+use Rattle.std.proofs.Common.{arith}
 use Rattle.detour.proofs.Places.{free_start, free_here, not_free, none_free}
 use Rattle.detour.proofs.vias.find_free.Goals as goal
 

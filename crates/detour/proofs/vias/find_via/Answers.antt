@@ -1,4 +1,4 @@
-use Rattle.std.proofs.Common.{sym, refl, ap, ◌∙◌, arith}
+use Rattle.std.proofs.Common.{sym, ◌∙◌, arith}
 use Rattle.detour.proofs.Places.{found_here, not_here, nowhere}
 use Rattle.detour.proofs.vias.find_via.Goals as goal
 

@@ -1,4 +1,4 @@
-use Rattle.std.proofs.Common.{refl, rules}
+use Rattle.std.proofs.Common.{refl}
 use Rattle.examples.proofs.Holds.{all_hold}
 use Rattle.examples.proofs.table.example_count.Goals as goal
 

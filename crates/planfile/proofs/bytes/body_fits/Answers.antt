@@ -1,4 +1,4 @@
-use Rattle.std.proofs.Common.{◌-◌, sym, ◌∙◌}
+use Rattle.std.proofs.Common.{sym, ◌∙◌}
 use Rattle.planfile.specs.Layouts.{byte_fits}
 use Rattle.planfile.proofs.Places.{all_more, all_stops, all_none}
 use Rattle.planfile.proofs.bytes.body_fits.Goals as goal

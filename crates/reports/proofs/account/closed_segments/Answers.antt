@@ -1,6 +1,5 @@
-use Rattle.std.proofs.Common.{◌≡◌, ◌+◌, ◌≤◌, sym, ◌∙◌, arith}
+use Rattle.std.proofs.Common.{sym, ◌∙◌, arith}
 use Rattle.map.specs.Layouts.{layout, segment_closed}
-use Rattle.reports.specs.Numbers.{how_many_below}
 use Rattle.reports.proofs.Counts.{none_below, counts_one, counts_none}
 use Rattle.reports.proofs.account.closed_segments.Goals as goal
 use Rattle.reports.proofs.account.closed_segments.Goals.{then-is_segment_closed, else-is_segment_closed}

@@ -1,6 +1,5 @@
-use Rattle.std.proofs.Common.{◌≡◌, ◌+◌, ◌≤◌, sym, ◌∙◌, arith}
+use Rattle.std.proofs.Common.{sym, ◌∙◌, arith}
 use Rattle.map.specs.Layouts.{layout, table_closed}
-use Rattle.reports.specs.Numbers.{how_many_below}
 use Rattle.reports.proofs.Counts.{none_below, counts_one, counts_none}
 use Rattle.reports.proofs.account.closed_tables.Goals as goal
 use Rattle.reports.proofs.account.closed_tables.Goals.{then-is_table_closed, else-is_table_closed}

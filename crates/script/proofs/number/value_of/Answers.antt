@@ -1,8 +1,8 @@
-use Rattle.std.proofs.Common.{◌≡◌, ◌+◌, ◌-◌, ◌*◌, ◌≤◌, length, get_or, sym, ◌∙◌, arith}
+use Rattle.std.proofs.Common.{◌≡◌, ◌+◌, ◌-◌, ◌*◌, ◌≤◌, get_or, sym, ◌∙◌, arith}
 use Rattle.std.proofs.lemmas.Bool.{eqb-false}
 use Rattle.std.proofs.lemmas.Bool.Decides.{nat_tests}
 use Rattle.script.specs.Numbers.{capped, number_of, at_most_over}
-use Rattle.script.proofs.Digits.{capped_on, begins, goes_on, breaks_off, ends}
+use Rattle.script.proofs.Digits.{begins, goes_on, breaks_off, ends}
 use Rattle.script.proofs.number.value_of.Goals as goal
 use Rattle.script.proofs.number.value_of.Goals.{then-more-lt-OVER, else-more-lt-OVER}
 

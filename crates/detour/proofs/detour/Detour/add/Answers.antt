@@ -1,4 +1,4 @@
-use Rattle.std.proofs.Common.{sym, refl, ap, ◌∙◌, rules}
+use Rattle.std.proofs.Common.{sym, ◌∙◌, rules}
 use Rattle.detour.proofs.Pairs.{added, is_none}
 use Rattle.detour.proofs.detour.Detour.add.Goals as goal
 

@@ -1,6 +1,4 @@
-use Rattle.std.proofs.Common.{List, None, Option, sym, refl, ap, ◌∙◌, rules}
-use Rattle.detour.specs.declared.vias.Via.{Via}
-use Rattle.detour.specs.Promises.{ViaSet}
+use Rattle.std.proofs.Common.{rules}
 use Rattle.detour.proofs.Pairs.{removed}
 use Rattle.detour.proofs.detour.Detour.remove.Goals as goal
 

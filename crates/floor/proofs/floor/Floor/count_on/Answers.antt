@@ -1,4 +1,4 @@
-use Rattle.std.proofs.Common.{sym, refl, ap, ◌∙◌, arith}
+use Rattle.std.proofs.Common.{sym, ◌∙◌, arith}
 use Rattle.std.proofs.lemmas.Result.{err_from_is_err_and}
 use Rattle.trays.proofs.Walks.{turn_missing, turn_there, turn_spent, turn_fails, turn_on}
 use Rattle.floor.proofs.floor.Floor.count_on.Goals as goal

@@ -1,4 +1,4 @@
-use Rattle.std.proofs.Common.{◌<◌, ◌≤◌, length, sym, refl, ap, ◌∙◌, arith, rules}
+use Rattle.std.proofs.Common.{◌<◌, ◌≤◌, length, sym, refl, ap, arith}
 use Rattle.map.specs.Layouts.{layout, on_map, stop_count}
 use Rattle.map.specs.Changes.{told, after}
 use Rattle.map.proofs.Flags.{one_more, set_there}

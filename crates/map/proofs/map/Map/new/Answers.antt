@@ -1,4 +1,4 @@
-use Rattle.std.proofs.Common.{sym, refl, ap, ◌∙◌, arith, rules}
+use Rattle.std.proofs.Common.{sym, refl, arith, rules}
 use Rattle.std.proofs.lemmas.Bool.{both_ways}
 use Rattle.map.proofs.Flags.{none_set, none_counted}
 use Rattle.map.proofs.map.Map.new.Goals as goal

@@ -1,4 +1,4 @@
-use Rattle.std.proofs.Common.{◌≡◌, suc, ◌+◌, ◌<◌, Some, sym, refl, ap, ◌∙◌, subst, arith}
+use Rattle.std.proofs.Common.{◌≡◌, suc, ◌+◌, Some, sym, subst, arith}
 use Rattle.map.specs.Layouts.{layout}
 use Rattle.links.proofs.Nearby.{map_sized, present_small}
 use Rattle.tree.specs.Growths.{root_in, Sound, Spreading, Kept}

@@ -1,4 +1,4 @@
-use Rattle.std.proofs.Common.{◌+◌, ◌<◌, sym, refl, ap, ◌∙◌, subst, arith}
+use Rattle.std.proofs.Common.{◌<◌, sym, refl, ◌∙◌, subst, arith}
 use Rattle.map.specs.Layouts.{layout}
 use Rattle.links.proofs.Nearby.{map_sized}
 use Rattle.links.proofs.Grown.{some_is, none_is}
