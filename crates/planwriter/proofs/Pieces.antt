@@ -1,14 +1,15 @@
 -- What writes into a part of a buffer leave.
-use Rattle.std.proofs.Common.{◌≡◌, ℕ, zero, suc, ◌+◌, ◌-◌, ◌*◌, ◌<◌, ◌≤◌, List, [], ◌∷◌, ◌++◌, map, length, get_or, take, drop, set, Ok, sym, refl, ap, ◌∙◌, ⊎_elim, arith}
+use Rattle.std.proofs.Common.{◌≡◌, ℕ, zero, suc, ◌+◌, ◌-◌, ◌*◌, ◌<◌, ◌≤◌, List, [], ◌∷◌, ◌++◌, map, length, get_or, take, drop, set, Ok, sym, refl, ap, ◌∙◌, arith}
 use borrow.Rule.Slice.PartMut.{put_mid}
 use Rattle.std.proofs.lemmas.List.FromFn.{fill_by_all, length-map-range_with_len}
-use Rattle.std.proofs.lemmas.List.{drop-drop, drop_all, get_or-take, get_or-set_same, get_or-set_other, length-take-le, length-append, take-append-drop, append_assoc, append-nil}
+use Rattle.std.proofs.lemmas.List.{drop-drop, drop_all, get_or-take, length-take-le, length-append, take-append-drop, append_assoc, append-nil}
 use Rattle.std.proofs.lemmas.Slice.{take-put_mid, drop-put_mid}
-use Rattle.std.proofs.lemmas.Bool.{cases_eq, eq-eqb, le-leb, cond-true}
+use Rattle.std.proofs.lemmas.Bool.{eq-eqb, le-leb, cond-true}
 use Rattle.std.specs.List.{range_with_len}
 use Rattle.blocks.specs.Words.{closed, big_endian, last_word}
 use Rattle.planfile.specs.declared.block.Content.{Content}
 use Rattle.planfile.specs.Outcomes.{kind_of}
+use Rattle.planfile.proofs.Fills.{fill_more as filled_more}
 use Rattle.planwriter.specs.Files.{Source, block_byte, block_of, content_of, blocks_from, file_of, write_outcome}
 
 -- after a write to the last four bytes
@@ -25,10 +26,9 @@ pub written_ok : (keys buffer stops count : ℕ) → keys ≡ 1024 → 512 * (st
 written_ok keys buffer stops count k room same =
     ap (λ n. Ok (512 * (n + 9))) (sym same) ∙ sym (cond-true _ _ _ (eq-eqb keys 1024 k) ∙ cond-true _ _ _ (le-leb (512 * (stops + 9)) buffer room))
 
--- a list that is filled place by place
+-- a list that is filled place by place, as in reading a plan to keep it
 pub fill_more : (f : ℕ → ℕ) (xs : List ℕ) (p y : ℕ) → p < length xs → y ≡ f p → ((k : ℕ) → k < p → get_or xs k 0 ≡ f k) → (k : ℕ) → k < p + 1 → get_or (set xs p y) k 0 ≡ f k
-fill_more f xs p y h e before k l =
-    ⊎_elim (λ (q : k ≡ p). rw q (get_or-set_same xs p y 0 h ∙ e)) (λ ne. get_or-set_other xs p k y 0 ne ∙ before k (omega (arith, ne))) (cases_eq k p)
+fill_more f xs p y h e before k l = filled_more f xs p y h e before k l
 
 -- the first four bytes of a block
 pub front_stands : (source : Source) (content : Content) (number kind : ℕ) (xs : List ℕ) → length xs ≡ 512 → kind ≡ kind_of content
