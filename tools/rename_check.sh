@@ -4,6 +4,6 @@
 set -euo pipefail
 git mv crates/check crates/plancheck
 sed -i -E '/^#/! s/(^|[: ])check(:| |$)/\1plancheck\2/g' crates.txt
-grep -rlE 'Rattle\.check\.|\bcheck::' crates docs bench --include='*' | while read -r file; do
-  sed -i -E 's/Rattle\.check\./Rattle.plancheck./g; s/\bcheck::(check|pass)\b/plancheck::\1/g; s/\bcheck::</check::</g' "$file"
+grep -rlE 'Rattle\.check\.|\bcheck::' crates docs bench | while read -r file; do
+  sed -i -E 's/Rattle\.check\./Rattle.plancheck./g; s/\bcheck::(check|pass)\b/plancheck::\1/g' "$file"
 done
