@@ -15,7 +15,7 @@ pub record Sized (m : Layout) : Type 0 where
   pub high : m.height ≤ 16
 
 pub map_sized : (m : Map) → Sized (layout m)
-map_sized m = record { wide = m.wide.1; high = m.high.1 }
+map_sized m = record { wide = m.size.wide.1; high = m.size.high.1 }
 
 cond_some : (b : Bool) (x : Option ℕ) (u : ℕ) → cond b x None ≡ Some u → (b ≡ true) × (x ≡ Some u)
 cond_some true x u e = (refl, e)

@@ -1,8 +1,9 @@
 -- What each change of a map answers, and the map that it leaves.
-use Rattle.std.specs.Prelude.{ℕ, Bool, true, false, cond, ◌&&◌, replicate, is_some, Ok, Err, Result, nat_le, nat_lt, slice_set}
+use Rattle.std.specs.Prelude.{ℕ, Bool, true, false, cond, ◌&&◌, replicate, is_some, Ok, Err, Result, nat_lt, slice_set}
 use Rattle.map.specs.declared.map.Map.{Map}
 use Rattle.map.specs.declared.refusal.Refusal.{Refusal}
 use Rattle.map.specs.declared.refusal.Refusal.TheVariants.{BadSize, NoTable, NoSegment, TooManyStops}
+use Rattle.map.specs.Sizes.{fits_size}
 use Rattle.map.specs.Counts.{how_many}
 use Rattle.map.specs.Layouts.{Layout, layout, on_map, head_in}
 
@@ -20,9 +21,6 @@ abbrev pub made : Result Map Refusal → Result Layout Refusal
 made (Ok m) = Ok (layout m)
 made (Err e) = Err e
 
-abbrev pub fits_size : ℕ → Bool
-fits_size n = nat_le 1 n && nat_le n 16
-
 -- no stops, and nothing closed
 abbrev pub bare_map : ℕ → ℕ → Layout
 bare_map w h = record { width = w; height = h; closed_tables = replicate 256 false; closed_segments = replicate 1024 false; stops = replicate 256 false }
@@ -39,17 +37,24 @@ set_segment b m n = record { width = m.width; height = m.height; closed_tables =
 abbrev pub set_stop : Bool → Layout → ℕ → Layout
 set_stop b m t = record { width = m.width; height = m.height; closed_tables = m.closed_tables; closed_segments = m.closed_segments; stops = slice_set m.stops t b }
 
+-- closing (b is true) or reopening (b is false) a table, and a segment
+abbrev pub table_change : Bool → Layout → ℕ → Result Layout Refusal
+table_change b m t = cond (on_map m t) (Ok (set_table b m t)) (Err NoTable)
+
+abbrev pub segment_change : Bool → Layout → ℕ → Result Layout Refusal
+segment_change b m n = cond (is_some (head_in m n)) (Ok (set_segment b m n)) (Err NoSegment)
+
 abbrev pub close_table : Layout → ℕ → Result Layout Refusal
-close_table m t = cond (on_map m t) (Ok (set_table true m t)) (Err NoTable)
+close_table = table_change true
 
 abbrev pub reopen_table : Layout → ℕ → Result Layout Refusal
-reopen_table m t = cond (on_map m t) (Ok (set_table false m t)) (Err NoTable)
+reopen_table = table_change false
 
 abbrev pub close_segment : Layout → ℕ → Result Layout Refusal
-close_segment m n = cond (is_some (head_in m n)) (Ok (set_segment true m n)) (Err NoSegment)
+close_segment = segment_change true
 
 abbrev pub reopen_segment : Layout → ℕ → Result Layout Refusal
-reopen_segment m n = cond (is_some (head_in m n)) (Ok (set_segment false m n)) (Err NoSegment)
+reopen_segment = segment_change false
 
 -- how many tables other than t are stops
 abbrev pub other_stops : Layout → ℕ → ℕ

@@ -15,7 +15,7 @@ pub record Layout : Type 0 where
   pub stops : List Bool
 
 abbrev pub layout : Map → Layout
-layout m = record { width = m.width; height = m.height; closed_tables = m.tables; closed_segments = m.segments; stops = m.stops }
+layout m = record { width = m.size.width; height = m.size.height; closed_tables = m.tables; closed_segments = m.segments; stops = m.stops }
 
 abbrev pub on_map : Layout → ℕ → Bool
 on_map m t = on_floor m.width m.height t

@@ -1,5 +1,6 @@
 pub mod Sides
 pub mod Floors
+pub mod Sizes
 pub mod Counts
 pub mod Refusals
 pub mod Layouts

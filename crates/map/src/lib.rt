@@ -4,3 +4,4 @@
 pub mod map;
 pub mod refusal;
 pub mod side;
+pub mod size;

@@ -4,6 +4,8 @@ ghost use Rattle.std.specs.Prelude.{◌≡◌, ℕ, ◌≤◌, true, false, is_s
 ghost use Rattle.map.specs.Floors.{on_floor, head_of};
 ghost use Rattle.map.specs.Counts.{how_many};
 
+use crate::size::Size;
+
 pub mod ask;
 pub mod change;
 
@@ -11,18 +13,16 @@ pub mod change;
 /// are stops. Nothing off the floor is ever marked, and at most 64 tables are stops.
 #[derive(Clone, Copy)]
 pub struct Map {
-    width: u8,
-    height: u8,
+    size: Size,
     // true where closed
     tables: [bool; 256],
     segments: [bool; 1024],
     stops: [bool; 256],
+    // how many stops there are
     count: u8,
-    ghost wide: { (1 ≤ width) × (width ≤ 16) },
-    ghost high: { (1 ≤ height) × (height ≤ 16) },
-    ghost tables_there: { (t : ℕ) → slice_index_or tables t false ≡ true → on_floor width height t ≡ true },
-    ghost segments_there: { (s : ℕ) → slice_index_or segments s false ≡ true → is_some (head_of width height s) ≡ true },
-    ghost stops_there: { (t : ℕ) → slice_index_or stops t false ≡ true → on_floor width height t ≡ true },
+    ghost tables_there: { (t : ℕ) → slice_index_or tables t false ≡ true → on_floor size.width size.height t ≡ true },
+    ghost segments_there: { (s : ℕ) → slice_index_or segments s false ≡ true → is_some (head_of size.width size.height s) ≡ true },
+    ghost stops_there: { (t : ℕ) → slice_index_or stops t false ≡ true → on_floor size.width size.height t ≡ true },
     ghost counted: { count ≡ how_many stops },
     ghost few: { count ≤ 64 },
 }

@@ -1,24 +1,19 @@
 ghost use Rattle.std.specs.Prelude.{◌≡◌};
 ghost use Rattle.map.specs.Refusals.{refusal_number};
 
-/// Why a call of the map is turned down.
+/// Why a call of the map is turned down, with its number.
 #[derive(Clone, Copy, PartialEq, Eq, Debug)]
 pub enum Refusal {
-    BadSize,
-    NoTable,
-    NoSegment,
-    TooManyStops,
+    BadSize = 1,
+    NoTable = 2,
+    NoSegment = 3,
+    TooManyStops = 4,
 }
 
 impl Refusal {
     pub fn number(self) -> u8
         ensures { result ≡ refusal_number self }
     {
-        match self {
-            Refusal::BadSize => 1,
-            Refusal::NoTable => 2,
-            Refusal::NoSegment => 3,
-            Refusal::TooManyStops => 4,
-        }
+        self as u8
     }
 }

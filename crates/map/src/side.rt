@@ -1,13 +1,30 @@
 ghost use Rattle.std.specs.Prelude.{◌≡◌, ◌%◌, ◌<◌};
-ghost use Rattle.map.specs.Sides.{side_number, side_of, opposite, segment};
+ghost use Rattle.map.specs.Sides.{side_number, side_of, opposite, segment, side_outcome};
 
-/// A side of a table, with its neighbour there.
+/// A side of a table, with its neighbour there, and the side's number.
 #[derive(Clone, Copy, PartialEq, Eq, Debug)]
 pub enum Side {
-    North,
-    East,
-    South,
-    West,
+    North = 0,
+    East = 1,
+    South = 2,
+    West = 3,
+}
+
+/// The sides by their numbers.
+pub const SIDES: [Side; 4] = [Side::North, Side::East, Side::South, Side::West];
+
+/// A number that no side has.
+#[derive(Clone, Copy, PartialEq, Eq, Debug)]
+pub struct NoSide;
+
+impl TryFrom<u8> for Side {
+    type Error = NoSide;
+
+    ghost try_from_gives = { λ number r. r ≡ side_outcome number };
+
+    fn try_from(number: u8) -> Result<Side, NoSide> {
+        SIDES.get(usize::from(number)).copied().ok_or(NoSide)
+    }
 }
 
 impl Side {
@@ -15,24 +32,14 @@ impl Side {
         ensures is { result ≡ side_number self }
         ensures small { result < 4 }
     {
-        match self {
-            Side::North => 0,
-            Side::East => 1,
-            Side::South => 2,
-            Side::West => 3,
-        }
+        self as u8
     }
 
     /// The side on which the segment of this number leaves its table.
     pub fn of_segment(segment: u16) -> Side
         ensures { result ≡ side_of (segment % 4) }
     {
-        match segment % 4 {
-            0 => Side::North,
-            1 => Side::East,
-            2 => Side::South,
-            _ => Side::West,
-        }
+        SIDES[(segment % 4) as usize]
     }
 
     pub fn opposite(self) -> Side
@@ -51,6 +58,6 @@ impl Side {
         ensures is { result ≡ segment table self }
         ensures small { result < 1024 }
     {
-        4 * table as u16 + self.number() as u16
+        4 * u16::from(table) + u16::from(self.number())
     }
 }

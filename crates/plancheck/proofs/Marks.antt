@@ -95,8 +95,8 @@ no_stop_past m t l =
     elim (cases_Bool (is_stop (layout m) t)) [
       | inr e ↦ e
       | inl e ↦
-          let on = and_parts (ltb (column t) m.width) (ltb (row t) m.height) (m.stops_there t e) in
-          let north : row t < m.height = ltb-true (row t) m.height on.1 in
-          let high = m.high.1 in
+          let on = and_parts (ltb (column t) m.size.width) (ltb (row t) m.size.height) (m.stops_there t e) in
+          let north : row t < m.size.height = ltb-true (row t) m.size.height on.1 in
+          let high = m.size.high.1 in
           absurd (omega arith)
     ]

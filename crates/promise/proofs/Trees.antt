@@ -162,4 +162,4 @@ pub tree_plan : (m : Layout) (way : ℕ → ℕ → Option (Side × ℕ)) (key :
 tree_plan m way key p q = λ i. record { first = λ o d. 0; way = λ t d n. p t d i; map = m; rises = λ a b. pair_before (q a i) (q b i) }
 
 pub map_lawful : (m : Map) → Lawful (layout m)
-map_lawful m = let few = m.few in let counted = m.counted in record { wide = m.wide; high = m.high; tables_there = m.tables_there; segments_there = m.segments_there; stops_there = m.stops_there; few = omega arith }
+map_lawful m = let few = m.few in let counted = m.counted in record { wide = m.size.wide; high = m.size.high; tables_there = m.tables_there; segments_there = m.segments_there; stops_there = m.stops_there; few = omega arith }

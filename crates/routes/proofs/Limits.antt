@@ -30,7 +30,7 @@ pub record Proper (s : Routing) : Type 0 where
 
 pub proper : {W R K : Type 0} (ways : WayFinder.Ghosts W) (ranks : Ranker.Ghosts R K) (keys : KeyOrder.Ghosts K) → ((x : K) → keys.before x x ≡ false) → ((x y z : K) → keys.before x y ≡ true → keys.before y z ≡ true → keys.before x z ≡ true) → (m : Map) (w : W) (r : R) → Proper (routing ways ranks keys m w r)
 proper ways ranks keys irreflexive transitive m w r =
-    record { wide = m.wide.1; high = m.high.1; irreflexive = λ x. irreflexive _; transitive = λ x y z. transitive _ _ _ }
+    record { wide = m.size.wide.1; high = m.size.high.1; irreflexive = λ x. irreflexive _; transitive = λ x y z. transitive _ _ _ }
 
 -- the segments taken, last first, of which the first is held
 abbrev Row : (ℕ → ℕ → Bool) → Option ℕ → List ℕ → Type 0

@@ -10,54 +10,35 @@ impl Map {
     pub fn width(&self) -> u8
         ensures { result ≡ (layout self.now).width }
     {
-        self.width
+        self.size.width()
     }
 
     pub fn height(&self) -> u8
         ensures { result ≡ (layout self.now).height }
     {
-        self.height
+        self.size.height()
     }
 
     /// Whether the table is on the floor.
     pub fn has(&self, table: u8) -> bool
         ensures { result ≡ on_map (layout self.now) table }
     {
-        table % 16 < self.width && table / 16 < self.height
+        self.size.has(table)
     }
 
     /// The neighbour on that side, where both tables are on the floor.
     pub fn beside(&self, table: u8, side: Side) -> Option<u8>
         ensures { result ≡ beside_in (layout self.now) table side }
     {
-        if !self.has(table) {
-            return None;
-        }
-        let there = match side {
-            Side::North => table / 16 > 0,
-            Side::East => table % 16 + 1 < self.width,
-            Side::South => table / 16 + 1 < self.height,
-            Side::West => table % 16 > 0,
-        };
-        if !there {
-            return None;
-        }
-        Some(match side {
-            Side::North => table - 16,
-            Side::East => table + 1,
-            Side::South => table + 16,
-            Side::West => table - 1,
-        })
+        self.size.beside(table, side)
     }
 
     /// The table that the segment leads to, where the segment exists.
     pub fn head(&self, segment: u16) -> Option<u8>
         ensures { result ≡ head_in (layout self.now) segment }
     {
-        if segment >= 1024 {
-            return None;
-        }
-        self.beside((segment / 4) as u8, Side::of_segment(segment))
+        let table = u8::try_from(segment / 4).ok()?;
+        self.beside(table, Side::of_segment(segment))
     }
 
     pub fn is_table_closed(&self, table: u8) -> bool
@@ -77,27 +58,21 @@ impl Map {
     pub fn is_open(&self, segment: u16) -> bool
         ensures { result ≡ open_in (layout self.now) segment }
     {
-        match self.head(segment) {
-            None => false,
-            Some(head) => {
-                !self.is_segment_closed(segment)
-                    && !self.tables[(segment / 4) as usize]
-                    && !self.tables[head as usize]
-            }
-        }
+        self.head(segment).is_some_and(|head| {
+            !self.is_segment_closed(segment)
+                && !self.tables[(segment / 4) as usize]
+                && !self.tables[head as usize]
+        })
     }
 
     /// Whether both segments between the table and its neighbour on that side are open.
     pub fn is_link_open(&self, table: u8, side: Side) -> bool
         ensures { result ≡ link_open (layout self.now) table side }
     {
-        match self.beside(table, side) {
-            None => false,
-            Some(neighbour) => {
-                self.is_open(side.segment_from(table))
-                    && self.is_open(side.opposite().segment_from(neighbour))
-            }
-        }
+        self.beside(table, side).is_some_and(|neighbour| {
+            self.is_open(side.segment_from(table))
+                && self.is_open(side.opposite().segment_from(neighbour))
+        })
     }
 
     pub fn is_stop(&self, table: u8) -> bool

@@ -1,10 +1,11 @@
 ghost use Rattle.std.specs.Prelude.{◌≡◌, true, false};
 ghost use Rattle.map.specs.Layouts.{layout};
-ghost use Rattle.map.specs.Changes.{told, after, made, new_map, close_table, reopen_table, close_segment, reopen_segment, mark_stop, unmark_stop};
+ghost use Rattle.map.specs.Changes.{told, after, made, new_map, table_change, segment_change, close_table, reopen_table, close_segment, reopen_segment, mark_stop, unmark_stop};
 ghost use Rattle.map.specs.Promises.{TableSet, SegmentSet, StopSet, Bare, Changed, Made};
 
 use super::Map;
 use crate::refusal::Refusal;
+use crate::size::Size;
 
 const MOST_STOPS: u8 = 64;
 
@@ -14,12 +15,9 @@ impl Map {
         ensures outcome { made result ≡ new_map width height }
         ensures bare { Made result (Bare width height) }
     {
-        if width < 1 || width > 16 || height < 1 || height > 16 {
-            return Err(Refusal::BadSize);
-        }
+        let size = Size::new(width, height)?;
         Ok(Map {
-            width,
-            height,
+            size,
             tables: [false; 256],
             segments: [false; 1024],
             stops: [false; 256],
@@ -32,11 +30,7 @@ impl Map {
         ensures later { layout self.new ≡ after (layout self.old) (close_table (layout self.old) table) }
         ensures only { Changed result (TableSet true table) (layout self.old) (layout self.new) }
     {
-        if !self.has(table) {
-            return Err(Refusal::NoTable);
-        }
-        self.tables[table as usize] = true;
-        Ok(())
+        self.set_table(table, true)
     }
 
     pub fn reopen_table(&mut self, table: u8) -> Result<(), Refusal>
@@ -44,11 +38,7 @@ impl Map {
         ensures later { layout self.new ≡ after (layout self.old) (reopen_table (layout self.old) table) }
         ensures only { Changed result (TableSet false table) (layout self.old) (layout self.new) }
     {
-        if !self.has(table) {
-            return Err(Refusal::NoTable);
-        }
-        self.tables[table as usize] = false;
-        Ok(())
+        self.set_table(table, false)
     }
 
     pub fn close_segment(&mut self, segment: u16) -> Result<(), Refusal>
@@ -56,11 +46,7 @@ impl Map {
         ensures later { layout self.new ≡ after (layout self.old) (close_segment (layout self.old) segment) }
         ensures only { Changed result (SegmentSet true segment) (layout self.old) (layout self.new) }
     {
-        if self.head(segment).is_none() {
-            return Err(Refusal::NoSegment);
-        }
-        self.segments[segment as usize] = true;
-        Ok(())
+        self.set_segment(segment, true)
     }
 
     pub fn reopen_segment(&mut self, segment: u16) -> Result<(), Refusal>
@@ -68,11 +54,7 @@ impl Map {
         ensures later { layout self.new ≡ after (layout self.old) (reopen_segment (layout self.old) segment) }
         ensures only { Changed result (SegmentSet false segment) (layout self.old) (layout self.new) }
     {
-        if self.head(segment).is_none() {
-            return Err(Refusal::NoSegment);
-        }
-        self.segments[segment as usize] = false;
-        Ok(())
+        self.set_segment(segment, false)
     }
 
     pub fn mark_stop(&mut self, table: u8) -> Result<(), Refusal>
@@ -107,6 +89,30 @@ impl Map {
         }
         self.stops[table as usize] = false;
         self.count -= 1;
+        Ok(())
+    }
+
+    fn set_table(&mut self, table: u8, closed: bool) -> Result<(), Refusal>
+        ensures outcome { result ≡ told (table_change closed (layout self.old) table) }
+        ensures later { layout self.new ≡ after (layout self.old) (table_change closed (layout self.old) table) }
+        ensures only { Changed result (TableSet closed table) (layout self.old) (layout self.new) }
+    {
+        if !self.has(table) {
+            return Err(Refusal::NoTable);
+        }
+        self.tables[table as usize] = closed;
+        Ok(())
+    }
+
+    fn set_segment(&mut self, segment: u16, closed: bool) -> Result<(), Refusal>
+        ensures outcome { result ≡ told (segment_change closed (layout self.old) segment) }
+        ensures later { layout self.new ≡ after (layout self.old) (segment_change closed (layout self.old) segment) }
+        ensures only { Changed result (SegmentSet closed segment) (layout self.old) (layout self.new) }
+    {
+        if self.head(segment).is_none() {
+            return Err(Refusal::NoSegment);
+        }
+        self.segments[segment as usize] = closed;
         Ok(())
     }
 }

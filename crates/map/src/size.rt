@@ -1,0 +1,70 @@
+ghost use Rattle.std.specs.Prelude.{◌≡◌, ◌≤◌, ◌&&◌, is_ok, IfOk, IfErr};
+ghost use Rattle.map.specs.Sizes.{fits_size};
+ghost use Rattle.map.specs.declared.refusal.Refusal.TheVariants.{BadSize};
+ghost use Rattle.map.specs.Floors.{on_floor, beside};
+
+use crate::refusal::Refusal;
+use crate::side::Side;
+
+/// How many columns and rows a floor has: from 1 to 16 of each.
+#[derive(Clone, Copy)]
+pub struct Size {
+    width: u8,
+    height: u8,
+    ghost wide: { (1 ≤ width) × (width ≤ 16) },
+    ghost high: { (1 ≤ height) × (height ≤ 16) },
+}
+
+/// The size of which there is no larger.
+pub const LARGEST: Size = Size {
+    width: 16,
+    height: 16,
+};
+
+impl Size {
+    pub(crate) fn new(width: u8, height: u8) -> Result<Size, Refusal>
+        ensures fits { is_ok result ≡ (fits_size width && fits_size height) }
+        ensures made { IfOk result (λ s. (s.width ≡ width) × (s.height ≡ height)) }
+        ensures refused { IfErr result (λ e. e ≡ BadSize) }
+    {
+        if width < 1 || width > 16 || height < 1 || height > 16 {
+            return Err(Refusal::BadSize);
+        }
+        Ok(Size { width, height })
+    }
+
+    pub(crate) fn width(self) -> u8
+        ensures { result ≡ self.width }
+    {
+        self.width
+    }
+
+    pub(crate) fn height(self) -> u8
+        ensures { result ≡ self.height }
+    {
+        self.height
+    }
+
+    /// Whether the table is on a floor of this size.
+    pub(crate) fn has(self, table: u8) -> bool
+        ensures { result ≡ on_floor self.width self.height table }
+    {
+        table % 16 < self.width && table / 16 < self.height
+    }
+
+    /// The neighbour on that side, where both tables are on a floor of this size.
+    pub fn beside(self, table: u8, side: Side) -> Option<u8>
+        ensures { result ≡ beside self.width self.height table side }
+    {
+        if !self.has(table) {
+            return None;
+        }
+        match side {
+            Side::North if table / 16 > 0 => Some(table - 16),
+            Side::East if table % 16 + 1 < self.width => Some(table + 1),
+            Side::South if table / 16 + 1 < self.height => Some(table + 16),
+            Side::West if table % 16 > 0 => Some(table - 1),
+            _ => None,
+        }
+    }
+}
