@@ -32,10 +32,6 @@ pub others_of_set : (bs : List Bool) (i : ℕ) → get_or bs i false ≡ true �
 unfolding weight
 others_of_set bs i e = omega (arith, count_set bs i false (set_within bs i e), ap weight e)
 
-pub others_of_clear : (bs : List Bool) (i : ℕ) → i < length bs → get_or bs i false ≡ false → how_many (set bs i false) ≡ how_many bs
-unfolding weight
-others_of_clear bs i h e = omega (arith, count_set bs i false h, ap weight e)
-
 pub one_more : (bs : List Bool) (i : ℕ) → i < length bs → get_or bs i false ≡ false → how_many (set bs i true) ≡ how_many bs + 1
 unfolding weight
 one_more bs i h e = omega (arith, count_set bs i true h, ap weight e)

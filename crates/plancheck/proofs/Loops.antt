@@ -1,85 +1,48 @@
--- The two loops of the check.
-use Rattle.std.proofs.Common.{◌≡◌, ℕ, ◌+◌, ◌*◌, ◌≤◌, true, false, ◌∷◌, Ok, Err, sym, refl, ap, ◌∙◌, arith}
-use Rattle.std.proofs.lemmas.Bool.{eq-eqb, ne_eqb, cond-true, cond-false}
-use Rattle.map.specs.Layouts.{is_stop}
+-- The two loops of the check, each turn of which checks the pairs of one table more.
+use Rattle.std.proofs.Common.{◌≡◌, ℕ, ◌+◌, Bool, true, false, cond, [], List, ◌∷◌, ◌++◌, Ok, Err, Result, sym, refl, ap, ◌∙◌, ◌==◌}
+use Rattle.map.specs.Layouts.{Layout, is_stop}
 use Rattle.routes.specs.declared.refusal.Refusal.{Refusal}
 use Rattle.routes.specs.Routings.{Routing}
-use Rattle.routes.specs.Steps.{route_check}
 use Rattle.plancheck.specs.declared.pass.Pass.{Pass}
-use Rattle.plancheck.specs.Totals.{counting, Few, no_pairs}
-use Rattle.plancheck.specs.Pairs.{stops_of, facing, pairs_from}
-use Rattle.plancheck.specs.Plans.{counted, check_pairs, plan_check}
+use Rattle.plancheck.specs.Pairs.{stops_of, stop_at, facing, pairs_from, pairs_of}
+use Rattle.plancheck.specs.Plans.{check_pairs}
 use Rattle.plancheck.proofs.Joins.{and_then, join}
-use Rattle.plancheck.proofs.Marks.{left, left_here, left_none}
+use Rattle.plancheck.proofs.Marks.{left, left_here}
 
--- b is counted onto a over the stops below i, and those from i on decide
-pub record From (s : Routing) (o : ℕ) (a : Pass) (i : ℕ) (b : Pass) : Type 0 where
-  pub few : Few b (a.pairs + i)
-  pub rest : check_pairs s b (facing o (left s.map.stops i)) ≡ check_pairs s a (facing o (stops_of s.map))
+-- pairs that are taken table by table: those of table i, and then those from the next table on
+module _ (s : Routing) (here from : ℕ → List (ℕ × ℕ)) (splits : (i : ℕ) → from i ≡ here i ++ from (i + 1)) (whole : Result Pass Refusal) (i : ℕ) (b : Pass) (rest : check_pairs s b (from i) ≡ whole) where
+  next : and_then (check_pairs s b (here i)) (λ c. check_pairs s c (from (i + 1))) ≡ whole
+  next = sym (ap (check_pairs s b) (splits i) ∙ join s (from (i + 1)) (here i) b) ∙ rest
 
-module _ (s : Routing) (o : ℕ) (a : Pass) where
-  pub from_none : (n : ℕ) → Few a n → From s o a 0 a
-  from_none n f = record { few = record { pairs = omega arith; segments = f.segments }; rest = refl }
+  pub goes_on : (c : Pass) → Ok c ≡ check_pairs s b (here i) → check_pairs s c (from (i + 1)) ≡ whole
+  goes_on c e = rw (sym e) at next
 
-  module _ (i : ℕ) (b : Pass) (so : From s o a i b) where
-    pub from_all : ((t : ℕ) → 256 ≤ t → is_stop s.map t ≡ false) → 256 ≤ i → Ok b ≡ check_pairs s a (facing o (stops_of s.map))
-    from_all none l = sym (ap (λ xs. check_pairs s b (facing o xs)) (left_none s.map.stops i none l)) ∙ so.rest
+  pub fails : (e : Refusal) → Err e ≡ check_pairs s b (here i) → Err e ≡ whole
+  fails e f = rw (sym f) at next
 
-    keep : facing o (left s.map.stops i) ≡ facing o (left s.map.stops (i + 1)) → From s o a (i + 1) b
-    keep e = let few = so.few in record { few = record { pairs = omega arith; segments = few.segments }; rest = sym (ap (check_pairs s b) e) ∙ so.rest }
+one_pair : (b : Bool) (p : ℕ × ℕ) (ps : List (ℕ × ℕ)) → cond b ps (p ∷ ps) ≡ cond b [] (p ∷ []) ++ ps
+one_pair true p ps = refl
+one_pair false p ps = refl
 
-    pub from_no_stop : (b' : Pass) → is_stop s.map i ≡ false → b' ≡ b → From s o a (i + 1) b'
-    from_no_stop b' bare is = rw is (keep (ap (facing o) (left_here s.map.stops i ∙ cond-false _ _ _ bare)))
+module _ (m : Layout) where
+  -- the pairs from o to the stops from table i on
+  abbrev pub to_left : ℕ → ℕ → List (ℕ × ℕ)
+  to_left o i = facing o (left m.stops i)
 
-    module _ (stop : is_stop s.map i ≡ true) where
-      here : facing o (left s.map.stops i) ≡ facing o (i ∷ left s.map.stops (i + 1))
-      here = ap (facing o) (left_here s.map.stops i ∙ cond-true _ _ _ stop)
+  -- the pairs from the stops from table i on
+  abbrev pub from_left : ℕ → List (ℕ × ℕ)
+  from_left i = pairs_from (stops_of m) (left m.stops i)
 
-      pub from_same : (b' : Pass) → i ≡ o → b' ≡ b → From s o a (i + 1) b'
-      from_same b' e is = rw is (keep (here ∙ cond-true _ _ _ (eq-eqb i o e)))
+  to_split : (o i : ℕ) (b : Bool) (ds : List ℕ) → facing o (cond b (i ∷ ds) ds) ≡ facing o (cond b (i ∷ []) []) ++ facing o ds
+  to_split o i true ds = one_pair (i == o) (o, i) (facing o ds)
+  to_split o i false ds = refl
 
-      module _ (ne : i ≡ o → ⊥) where
-        other : counted b (route_check s o i) (λ c. check_pairs s c (facing o (left s.map.stops (i + 1)))) ≡ check_pairs s a (facing o (stops_of s.map))
-        other = sym (ap (check_pairs s b) (here ∙ cond-false _ _ _ (ne_eqb i o ne))) ∙ so.rest
+  from_split : (i : ℕ) (b : Bool) (os : List ℕ) → pairs_from (stops_of m) (cond b (i ∷ os) os) ≡ cond b (facing i (stops_of m)) [] ++ pairs_from (stops_of m) os
+  from_split i true os = refl
+  from_split i false os = refl
 
-        pub from_fails : (e : Refusal) → Err e ≡ route_check s o i → Err e ≡ check_pairs s a (facing o (stops_of s.map))
-        from_fails e f = rw (sym f) at other
+  pub to_splits : (o i : ℕ) → to_left o i ≡ facing o (stop_at m i) ++ to_left o (i + 1)
+  to_splits o i = ap (facing o) (left_here m.stops i) ∙ to_split o i (is_stop m i) (left m.stops (i + 1))
 
-        pub from_more : (b' : Pass) (n : ℕ) → Ok n ≡ route_check s o i → n ≤ 960 → b' ≡ counting b n → From s o a (i + 1) b'
-        from_more b' n f short is =
-            rw is
-            (let few = so.few in
-            record { few = record { pairs = omega arith; segments = omega arith }; rest = rw (sym f) at other })
-
--- b is counted over the pairs of the origins below i
-pub record All (s : Routing) (i : ℕ) (b : Pass) : Type 0 where
-  pub few : Few b (256 * i)
-  pub rest : check_pairs s b (pairs_from (stops_of s.map) (left s.map.stops i)) ≡ plan_check s
-
-module _ (s : Routing) where
-  pub all_none : All s 0 no_pairs
-  all_none = record { few = record { pairs = omega arith; segments = omega arith }; rest = refl }
-
-  module _ (i : ℕ) (b : Pass) (so : All s i b) where
-    pub all_all : ((t : ℕ) → 256 ≤ t → is_stop s.map t ≡ false) → 256 ≤ i → Ok b ≡ plan_check s
-    all_all none l = sym (ap (λ xs. check_pairs s b (pairs_from (stops_of s.map) xs)) (left_none s.map.stops i none l)) ∙ so.rest
-
-    pub all_no_stop : (b' : Pass) → is_stop s.map i ≡ false → b' ≡ b → All s (i + 1) b'
-    all_no_stop b' bare is =
-        rw is
-        (let few = so.few in
-        record { few = record { pairs = omega arith; segments = few.segments }; rest = sym (ap (λ xs. check_pairs s b (pairs_from (stops_of s.map) xs)) (left_here s.map.stops i ∙ cond-false _ _ _ bare)) ∙ so.rest })
-
-    module _ (stop : is_stop s.map i ≡ true) where
-      next : and_then (check_pairs s b (facing i (stops_of s.map))) (λ c. check_pairs s c (pairs_from (stops_of s.map) (left s.map.stops (i + 1)))) ≡ plan_check s
-      next =
-          sym (ap (λ xs. check_pairs s b (pairs_from (stops_of s.map) xs)) (left_here s.map.stops i ∙ cond-true _ _ _ stop) ∙ join s (pairs_from (stops_of s.map) (left s.map.stops (i + 1))) (facing i (stops_of s.map)) b) ∙ so.rest
-
-      pub all_fails : (e : Refusal) → Err e ≡ check_pairs s b (facing i (stops_of s.map)) → Err e ≡ plan_check s
-      all_fails e f = rw (sym f) at next
-
-      pub all_more : (b' c : Pass) → Ok c ≡ check_pairs s b (facing i (stops_of s.map)) → Few c (b.pairs + 256) → b' ≡ c → All s (i + 1) b'
-      all_more b' c f fits is =
-          rw is
-          (let few = so.few in
-          record { few = record { pairs = omega arith; segments = fits.segments }; rest = rw (sym f) at next })
+  pub from_splits : (i : ℕ) → from_left i ≡ pairs_of m i ++ from_left (i + 1)
+  from_splits i = ap (pairs_from (stops_of m)) (left_here m.stops i) ∙ from_split i (is_stop m i) (left m.stops (i + 1))

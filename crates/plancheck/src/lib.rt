@@ -4,8 +4,8 @@
 ghost use Rattle.std.specs.Prelude.{◌≡◌, ◌+◌, ◌≤◌, IfOk};
 ghost use Rattle.map.specs.Layouts.{layout};
 ghost use Rattle.routes.specs.Routings.{routing};
-ghost use Rattle.plancheck.specs.Pairs.{stops_of, facing};
-ghost use Rattle.plancheck.specs.Totals.{counting, Few};
+ghost use Rattle.plancheck.specs.Pairs.{stop_at, facing, pairs_of};
+ghost use Rattle.plancheck.specs.Totals.{Few};
 ghost use Rattle.plancheck.specs.Plans.{check_pairs, plan_check};
 ghost use Rattle.plancheck.specs.Decisions.{Decided};
 ghost use Rattle.plancheck.specs.Wanted.{AllWanted};
@@ -31,15 +31,14 @@ pub fn check<W: WayFinder, R: Ranker>(map: &Map, finder: &W, ranker: &R) -> Resu
         segments: 0,
         longest: 0,
     };
-    for origin in 0..256u16 {
-        if map.is_stop(origin as u8) {
-            pass = check_from(map, finder, ranker, origin as u8, pass)?;
-        }
+    for origin in 0..=255u8 {
+        pass = check_from(map, finder, ranker, origin, pass)?;
     }
     Ok(pass)
 }
 
-/// The routes from one origin to each other stop, counted onto what passed before.
+/// The routes from the origin, where it is a stop, to each other stop, counted onto what passed
+/// before.
 fn check_from<W: WayFinder, R: Ranker>(
     map: &Map,
     finder: &W,
@@ -49,30 +48,37 @@ fn check_from<W: WayFinder, R: Ranker>(
 ) -> Result<Pass, Refusal>
     requires { Few before 65280 }
     ensures counted { IfOk result (λ p. Few p (before.pairs + 256)) }
-    ensures is { result ≡ check_pairs (routing W.WayFinder R.Ranker R.Key.KeyOrder map.now finder.now ranker.now) before (facing origin (stops_of (layout map.now))) }
+    ensures is { result ≡ check_pairs (routing W.WayFinder R.Ranker R.Key.KeyOrder map.now finder.now ranker.now) before (pairs_of (layout map.now) origin) }
 {
     let mut pass = before;
-    for stop in 0..256u16 {
-        let destination = stop as u8;
-        if map.is_stop(destination) && destination != origin {
-            let length = check_route(map, finder, ranker, origin, destination)?;
-            pass = with_route(pass, length);
+    if map.is_stop(origin) {
+        for destination in 0..=255u8 {
+            pass = check_pair(map, finder, ranker, origin, destination, pass)?;
         }
     }
     Ok(pass)
 }
 
-fn with_route(pass: Pass, length: u16) -> Pass
-    requires { (Few pass 65535) × (length ≤ 960) }
-    ensures { result ≡ counting pass length }
+/// The route of the pair, where the destination is another stop, counted onto what passed before.
+fn check_pair<W: WayFinder, R: Ranker>(
+    map: &Map,
+    finder: &W,
+    ranker: &R,
+    origin: u8,
+    destination: u8,
+    before: Pass,
+) -> Result<Pass, Refusal>
+    requires { Few before 65535 }
+    ensures counted { IfOk result (λ p. Few p (before.pairs + 1)) }
+    ensures is { result ≡ check_pairs (routing W.WayFinder R.Ranker R.Key.KeyOrder map.now finder.now ranker.now) before (facing origin (stop_at (layout map.now) destination)) }
 {
-    Pass {
-        pairs: pass.pairs + 1,
-        segments: pass.segments + length as u32,
-        longest: if pass.longest < length {
-            length
-        } else {
-            pass.longest
-        },
+    if !map.is_stop(destination) || destination == origin {
+        return Ok(before);
     }
+    let length = check_route(map, finder, ranker, origin, destination)?;
+    Ok(Pass {
+        pairs: before.pairs + 1,
+        segments: before.segments + length as u32,
+        longest: before.longest.max(length),
+    })
 }

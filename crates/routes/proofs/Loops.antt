@@ -35,9 +35,6 @@ pub record Sofar (s : Routing) (o d k : ℕ) (h : Option ℕ) (t n : ℕ) : Type
   pub rest : steps s o d (962 - k) k h t n ≡ route_check s o d
 
 module _ (s : Routing) (o d : ℕ) where
-  pub sofar_none : Sofar s o d 1 None o (s.first o d)
-  sofar_none = record { began = omega arith; short = omega arith; rest = refl }
-
   module _ (k : ℕ) (h : Option ℕ) (t n : ℕ) (so : Sofar s o d k h t n) where
     next : steps s o d (suc (961 - k)) k h t n ≡ route_check s o d
     next =

@@ -4,25 +4,20 @@ ghost use Rattle.routes.specs.Refusals.{reason_number};
 /// Stands for no segment in a refusal.
 pub const NO_SEGMENT: u16 = 65535;
 
-/// Why a step of a route is refused.
+/// Why a step of a route is refused, with the reason's number.
 #[derive(Clone, Copy, PartialEq, Eq, Debug)]
 pub enum Reason {
-    NoWay,
-    NoSegment,
-    Closed,
-    NotRising,
+    NoWay = 13,
+    NoSegment = 14,
+    Closed = 15,
+    NotRising = 16,
 }
 
 impl Reason {
     pub fn number(self) -> u8
         ensures { result ≡ reason_number self }
     {
-        match self {
-            Reason::NoWay => 13,
-            Reason::NoSegment => 14,
-            Reason::Closed => 15,
-            Reason::NotRising => 16,
-        }
+        self as u8
     }
 }
 

@@ -94,18 +94,12 @@ struct Held<K: Drop> {
 fn segment_of<K: Drop>(held: &Option<Held<K>>) -> Option<u16>
     ensures { result ≡ segment_of held.now }
 {
-    match held {
-        None => None,
-        Some(h) => Some(h.segment),
-    }
+    held.as_ref().map(|h| h.segment)
 }
 
 /// Whether the key held is before the one wanted; at the first step nothing is held.
 fn may_follow<K: KeyOrder + Drop>(held: &Option<Held<K>>, wanted: &K) -> bool
     ensures { result ≡ may_follow K.KeyOrder.before held.now wanted.now }
 {
-    match held {
-        None => true,
-        Some(h) => h.key.before(wanted),
-    }
+    held.as_ref().is_none_or(|h| h.key.before(wanted))
 }

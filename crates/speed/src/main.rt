@@ -5,41 +5,61 @@
 mod load;
 mod work;
 
-use anyhow::anyhow;
+use anyhow::Context;
+use load::run_floor;
 use map::map::Map;
+use plancheck::check;
 use std::env;
 use std::time::Instant;
-use work::Work;
+use tree::tree::Tree;
+use ways::rows::RowFirst;
+use work::{corridor_store, far_key, full_store, sum_of};
 
-/// Does the work so many times and tells its result, and the time of one round where it is asked for.
-fn report(rt: &HostRuntime, work: Work, store: &Map, clock: bool) -> anyhow::Result<()> {
-    let rounds = if clock { work.rounds() } else { 1 };
+/// Does the work and tells its result; where a clock is asked for, so many times, with the time of
+/// one round.
+fn report<F: Fn() -> u64>(
+    rt: &HostRuntime,
+    clock: bool,
+    name: &str,
+    rounds: u32,
+    work: F,
+) -> anyhow::Result<()>
+    requires { F.IsAlwaysCallable work }
+{
     let start = Instant::now(rt)?;
-    let mut result = 0u64;
-    for _ in 0..rounds {
-        result = work.run(store);
+    let mut result = work();
+    if !clock {
+        println!(rt; "{name} {result}")?;
+        return Ok(());
+    }
+    for _ in 1..rounds {
+        result = work();
     }
     let spent = start.elapsed(rt)?.as_nanos();
-    let name = work.name();
-    if clock {
-        println!(rt; "{name} {result} {rounds} {spent}")?;
-    } else {
-        println!(rt; "{name} {result}")?;
-    }
+    println!(rt; "{name} {result} {rounds} {spent}")?;
     Ok(())
 }
 
 fn main(rt: HostRuntime) -> anyhow::Result<()> {
     let clock = env::args(&rt)?.count() > 1;
-    let Some(full) = work::full_store() else {
-        return Err(anyhow!("no store"));
-    };
-    let Some(corridor) = work::corridor_store() else {
-        return Err(anyhow!("no store"));
-    };
-    report(&rt, Work::CheckRowFirst, &full, clock)?;
-    report(&rt, Work::CheckTree, &full, clock)?;
-    report(&rt, Work::BuildTree, &full, clock)?;
-    report(&rt, Work::BuildCorridor, &corridor, clock)?;
-    report(&rt, Work::RunFloor, &full, clock)
+    let full = full_store().context("no store")?;
+    let corridor = corridor_store().context("no store")?;
+    report(&rt, clock, "check-row-first", 100, || {
+        sum_of(check(&full, &RowFirst, &RowFirst))
+    })?;
+    report(&rt, clock, "check-tree", 20, || {
+        let tree = Tree::new(&full);
+        sum_of(check(&full, &tree, &tree))
+    })?;
+    report(
+        &rt,
+        clock,
+        "build-tree",
+        2000,
+        || far_key(&Tree::new(&full)),
+    )?;
+    report(&rt, clock, "build-tree-corridor", 2000, || {
+        far_key(&Tree::new(&corridor))
+    })?;
+    report(&rt, clock, "floor-million", 1, || run_floor(full))
 }

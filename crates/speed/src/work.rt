@@ -1,60 +1,10 @@
-use crate::load::run_floor;
 use map::map::Map;
-use map::side::Side;
 use orders::ranker::Ranker;
-use plancheck::check;
 use plancheck::pass::Pass;
 use routes::refusal::Refusal;
 use tree::tree::Tree;
-use ways::finder::WayFinder;
-use ways::rows::RowFirst;
 
-#[derive(Clone, Copy)]
-pub enum Work {
-    CheckRowFirst,
-    CheckTree,
-    BuildTree,
-    BuildCorridor,
-    RunFloor,
-}
-
-impl Work {
-    pub(crate) fn name(self) -> &'static str {
-        match self {
-            Work::CheckRowFirst => "check-row-first",
-            Work::CheckTree => "check-tree",
-            Work::BuildTree => "build-tree",
-            Work::BuildCorridor => "build-tree-corridor",
-            Work::RunFloor => "floor-million",
-        }
-    }
-
-    /// How often the work is done: enough for a clock.
-    pub(crate) fn rounds(self) -> u32 {
-        match self {
-            Work::CheckRowFirst => 100,
-            Work::CheckTree => 20,
-            Work::BuildTree => 2000,
-            Work::BuildCorridor => 2000,
-            Work::RunFloor => 1,
-        }
-    }
-
-    pub(crate) fn run(self, store: &Map) -> u64 {
-        match self {
-            Work::CheckRowFirst => sum_of(check(store, &RowFirst, &RowFirst)),
-            Work::CheckTree => {
-                let tree = Tree::new(store);
-                sum_of(check(store, &tree, &tree))
-            }
-            Work::BuildTree => far_key(&Tree::new(store)),
-            Work::BuildCorridor => far_key(&Tree::new(store)),
-            Work::RunFloor => run_floor(*store),
-        }
-    }
-}
-
-fn sum_of(verdict: Result<Pass, Refusal>) -> u64 {
+pub(crate) fn sum_of(verdict: Result<Pass, Refusal>) -> u64 {
     match verdict {
         Ok(pass) => {
             u64::from(pass.pairs)
@@ -67,15 +17,13 @@ fn sum_of(verdict: Result<Pass, Refusal>) -> u64 {
 }
 
 /// A number that depends on the whole tree: the way and the keys at every table.
-fn far_key(tree: &Tree) -> u64 {
-    let mut sum = 0u64;
-    for table in 0..256u16 {
-        let key = tree.key(table * 4);
-        sum = sum
-            .wrapping_mul(31)
-            .wrapping_add(u64::from(key.first) * 256 + u64::from(key.second));
-    }
-    sum
+pub(crate) fn far_key(tree: &Tree) -> u64 {
+    (0..256u16)
+        .map(|table| tree.key(table * 4))
+        .fold(0, |sum: u64, key| {
+            sum.wrapping_mul(31)
+                .wrapping_add(u64::from(key.first) * 256 + u64::from(key.second))
+        })
 }
 
 /// 16 by 16 tables, every fourth a stop.

@@ -44,30 +44,14 @@ impl Ranker for RowFirst {
     ghost key = { λ _ n. row_first_key n };
 
     fn key(&self, segment: u16) -> Pair<u16, u16> {
-        if segment >= 1024 {
-            return Pair {
-                first: 2,
-                second: 0,
-            };
-        }
         let (column, row) = (segment / 4 % 16, segment / 4 / 16);
-        match Side::of_segment(segment) {
-            Side::East => Pair {
-                first: 0,
-                second: column,
-            },
-            Side::West => Pair {
-                first: 0,
-                second: 15 - column,
-            },
-            Side::North => Pair {
-                first: 1,
-                second: 15 - row,
-            },
-            Side::South => Pair {
-                first: 1,
-                second: row,
-            },
-        }
+        let (first, second) = match Side::of_segment(segment) {
+            _ if segment >= 1024 => (2, 0),
+            Side::East => (0, column),
+            Side::West => (0, 15 - column),
+            Side::North => (1, 15 - row),
+            Side::South => (1, row),
+        };
+        Pair { first, second }
     }
 }

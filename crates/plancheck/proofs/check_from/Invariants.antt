@@ -1,7 +1,13 @@
+use Rattle.std.proofs.Common.{◌≡◌, ◌+◌}
+use Rattle.map.specs.Layouts.{layout}
 use Rattle.routes.specs.Routings.{routing}
-use Rattle.plancheck.proofs.Loops.{From}
+use Rattle.plancheck.specs.Totals.{Few}
+use Rattle.plancheck.specs.Pairs.{stops_of, facing}
+use Rattle.plancheck.specs.Plans.{check_pairs}
+use Rattle.plancheck.proofs.Loops.{to_left}
 use Rattle.plancheck.proofs.check_from.Given as goal
 
-abbrev pub invariant-loop-stop : goal.invariant-loop-stop
-invariant-loop-stop g l =
-    From (routing g.W.WayFinder g.R.Ranker g.R.Key.KeyOrder l.map l.finder l.ranker) l.origin l.initial.pass l.stop l.pass
+abbrev pub invariant-loop-destination : goal.invariant-loop-destination
+invariant-loop-destination g l =
+    let s = routing g.W.WayFinder g.R.Ranker g.R.Key.KeyOrder l.map l.finder l.ranker in
+    record { few : Few l.pass (l.initial.pass.pairs + l.destination); rest : check_pairs s l.pass (to_left (layout l.map) l.origin l.destination) ≡ check_pairs s l.initial.pass (facing l.origin (stops_of (layout l.map))) }
