@@ -9,16 +9,18 @@ use crate::size::Size;
 pub mod ask;
 pub mod change;
 
+// No model: behind one, the proofs above could not read the rules that every map keeps, as they do
+// from the ghost fields here. Clauses speak of a map by its `layout`.
 /// A floor of at most 16 by 16 tables: which tables and segments are closed, and which tables
 /// are stops. Nothing off the floor is ever marked, and at most 64 tables are stops.
 #[derive(Clone, Copy)]
 pub struct Map {
     size: Size,
-    // true where closed
+    // Flags by number, true where closed, and not sets: the library never allocates.
     tables: [bool; 256],
     segments: [bool; 1024],
     stops: [bool; 256],
-    // how many stops there are
+    // How many stops there are, so that marking one more asks no flag but its own.
     count: u8,
     ghost tables_there: { (t : ℕ) → slice_index_or tables t false ≡ true → on_floor size.width size.height t ≡ true },
     ghost segments_there: { (s : ℕ) → slice_index_or segments s false ≡ true → is_some (head_of size.width size.height s) ≡ true },

@@ -10,6 +10,8 @@ use orders::key::KeyOrder;
 use orders::ranker::Ranker;
 use ways::finder::WayFinder;
 
+// Map, way-finder and ranker come one by one: a struct of the three would need a model that holds
+// the way-finder's functions, and a model's value holds none.
 /// How many segments the route from the origin to the destination has, or its first step that
 /// is refused. Rising keys repeat no segment, so the loop ends on every plan.
 pub fn check_route<W: WayFinder, R: Ranker>(
@@ -25,8 +27,7 @@ pub fn check_route<W: WayFinder, R: Ranker>(
     let mut table = origin;
     let mut note = finder.first_note(origin, destination);
     let mut held: Option<Held<R::Key>> = None;
-    let mut number: u16 = 1;
-    loop {
+    for number in 1..u16::MAX {
         let step = Step {
             origin,
             destination,
@@ -56,8 +57,9 @@ pub fn check_route<W: WayFinder, R: Ranker>(
             segment: wanted,
             key,
         });
-        number += 1;
     }
+    // a route over rising keys has ended long before
+    unreachable!()
 }
 
 /// A step of a route, as its refusal names it.
