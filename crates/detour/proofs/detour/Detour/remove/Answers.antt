@@ -7,5 +7,5 @@ returns g c =
     record {
       outcome = search rules;
       later = search rules;
-      only = rw c.free_pair.ensures (removed c.args.origin c.args.destination c.args.self.now.vias);
+      only = rw c.remove.ensures (removed c.args.origin c.args.destination c.args.self.now.vias);
     }
