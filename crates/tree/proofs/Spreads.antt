@@ -1,5 +1,5 @@
 -- Each step of the search keeps what holds of the tables reached.
-use Rattle.std.proofs.Common.{◌≡◌, ℕ, suc, ◌+◌, ◌<◌, ◌≤◌, true, ◌⊎◌, Some, None, sym, refl, ap, ◌∙◌, subst, inl, inr, arith}
+use Rattle.std.proofs.Common.{◌≡◌, ℕ, suc, ◌+◌, ◌<◌, ◌≤◌, true, ◌⊎◌, List, [], ◌∷◌, get_or, Some, None, sym, refl, ap, ◌∙◌, subst, inl, inr, arith}
 use Rattle.std.proofs.lemmas.Bool.{cases_eq, cases_lt}
 use Rattle.std.proofs.lemmas.List.{length-set, get_or-set_same, get_or-set_other}
 use Rattle.map.specs.declared.side.Side.{Side}
@@ -12,7 +12,8 @@ use Rattle.links.specs.Groups.Chain.{stay, link}
 use Rattle.links.proofs.Chains.{none_some, same_some}
 use Rattle.links.proofs.Nearby.{Sized, near_both, near_within, near_present}
 use Rattle.tree.specs.declared.growth.Growth.{Growth}
-use Rattle.tree.specs.Growths.{root_in, depth_in, placed, reached, From, Sound, Spreading, Seen, Kept}
+use Rattle.tree.specs.declared.growth.Mark.{Mark}
+use Rattle.tree.specs.Growths.{unmarked, root_in, depth_in, placed, reached, From, Sound, Spreading, Seen, Kept}
 use Rattle.tree.proofs.Missing.{missing_set}
 
 -- the root is the table itself, or it was reached before
@@ -20,7 +21,7 @@ abbrev pub Origin : Growth → ℕ → ℕ → ℕ → Type 0
 Origin g u r e = ((r ≡ u) × (e ≡ 0)) ⊎ ((root_in g r ≡ Some r) × (depth_in g r ≡ 0))
 
 pub room : (m : Layout) (taken : ℕ) (g : Growth) (u : ℕ) → Sound m taken g → u < 256 → root_in g u ≡ None → g.count < 256
-room m taken g u h small fresh = omega (arith, h.counted, missing_set g.roots u 0 (omega (arith, h.roots_long)) fresh)
+room m taken g u h small fresh = omega (arith, h.counted, missing_set g.marks u 0 0 (omega (arith, h.marks_long)) fresh)
 
 module _ (m : Layout) (taken : ℕ) (g : Growth) (u r e : ℕ) (h : Sound m taken g) (small : u < 256) (fresh : root_in g u ≡ None) where
   abbrev new : Growth
@@ -30,19 +31,19 @@ module _ (m : Layout) (taken : ℕ) (g : Growth) (u r e : ℕ) (h : Sound m take
   free = room m taken g u h small fresh
 
   root_new : root_in new u ≡ Some r
-  root_new = get_or-set_same g.roots u (Some r) None (omega (arith, h.roots_long))
+  root_new = ap (λ (x : Mark). x.root) (get_or-set_same g.marks u _ unmarked (omega (arith, h.marks_long)))
 
   depth_new : depth_in new u ≡ e
-  depth_new = get_or-set_same g.depths u e 0 (omega (arith, h.depths_long))
+  depth_new = ap (λ (x : Mark). x.depth) (get_or-set_same g.marks u _ unmarked (omega (arith, h.marks_long)))
 
   place_new : placed new g.count ≡ u
   place_new = get_or-set_same g.queue g.count u 0 (omega (arith, h.queue_long, free))
 
   root_old : (t : ℕ) → (t ≡ u → ⊥) → root_in new t ≡ root_in g t
-  root_old t ne = get_or-set_other g.roots u t (Some r) None ne
+  root_old t ne = ap (λ (x : Mark). x.root) (get_or-set_other g.marks u t _ unmarked ne)
 
   depth_old : (t : ℕ) → (t ≡ u → ⊥) → depth_in new t ≡ depth_in g t
-  depth_old t ne = get_or-set_other g.depths u t e 0 ne
+  depth_old t ne = ap (λ (x : Mark). x.depth) (get_or-set_other g.marks u t _ unmarked ne)
 
   place_old : (i : ℕ) → i < g.count → placed new i ≡ placed g i
   place_old i l = get_or-set_other g.queue g.count i u 0 (omega arith)
@@ -134,10 +135,9 @@ module _ (m : Layout) (taken : ℕ) (g : Growth) (u r e : ℕ) (h : Sound m take
 
     pub sound : Sound m taken new
     sound = record {
-      roots_long = length-set g.roots u (Some r) ∙ h.roots_long;
-      depths_long = length-set g.depths u e ∙ h.depths_long;
+      marks_long = length-set g.marks u _ ∙ h.marks_long;
       queue_long = length-set g.queue g.count u ∙ h.queue_long;
-      counted = omega (arith, h.counted, missing_set g.roots u r (omega (arith, h.roots_long)) fresh);
+      counted = omega (arith, h.counted, missing_set g.marks u r e (omega (arith, h.marks_long)) fresh);
       taken_few = omega (arith, h.taken_few);
       small = each_place (λ i. placed new i < 256) (λ i l. omega (arith, place_old i l, h.small i l)) (omega (arith, place_new));
       shallow = each_place (λ i. depth_in new (placed new i) ≤ i) (λ i l. omega (arith, depth_place i l, h.shallow i l)) (omega (arith, depth_last));
@@ -283,8 +283,7 @@ module _ (m : Layout) (r place : ℕ) where
     pub taken : Spreading m r (suc place) g
     taken = record {
       sound = record {
-        roots_long = h.sound.roots_long;
-        depths_long = h.sound.depths_long;
+        marks_long = h.sound.marks_long;
         queue_long = h.sound.queue_long;
         counted = h.sound.counted;
         taken_few = omega arith;
@@ -301,11 +300,14 @@ module _ (m : Layout) (r place : ℕ) where
       level = λ u p root. omega (arith, h.level u l root, h.sorted place (suc place) (omega arith) (omega arith) p);
     }
 
-pub four_seen : (m : Layout) (r place : ℕ) (g : Growth) → Seen m r place North g → Seen m r place East g → Seen m r place South g → Seen m r place West g → (s : Side) → Seen m r place s g
-four_seen m r place g n e s w North = n
-four_seen m r place g n e s w East = e
-four_seen m r place g n e s w South = s
-four_seen m r place g n e s w West = w
+abbrev pub sides : List Side
+sides = North ∷ East ∷ South ∷ West ∷ []
+
+pub four_seen : (m : Layout) (r place : ℕ) (g : Growth) → ((k : ℕ) → k < 4 → Seen m r place (get_or sides k North) g) → (s : Side) → Seen m r place s g
+four_seen m r place g seen North = seen 0 (omega arith)
+four_seen m r place g seen East = seen 1 (omega arith)
+four_seen m r place g seen South = seen 2 (omega arith)
+four_seen m r place g seen West = seen 3 (omega arith)
 
 -- a new group starts at its lowest table
 module _ (m : Layout) (r : ℕ) (g : Growth) (h : Sound m g.count g) (small : r < 256) (fresh : root_in g r ≡ None) (there : present m r ≡ true) (lowest : RootOf (near m) r r) where

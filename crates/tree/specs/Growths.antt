@@ -5,27 +5,32 @@ use Rattle.map.specs.Layouts.{Layout}
 use Rattle.links.specs.Links.{near, present}
 use Rattle.links.specs.Groups.{Chain, RootOf}
 use Rattle.tree.specs.declared.growth.Growth.{Growth}
+use Rattle.tree.specs.declared.growth.Mark.{Mark}
+
+-- of a table that was not reached
+abbrev pub unmarked : Mark
+unmarked = record { root = None; depth = 0 }
 
 -- the root of a table that was reached
 abbrev pub root_in : Growth → ℕ → Option ℕ
-root_in g t = slice_index_or g.roots t None
+root_in g t = (slice_index_or g.marks t unmarked).root
 
 -- its depth
 abbrev pub depth_in : Growth → ℕ → ℕ
-depth_in g t = slice_index g.depths t
+depth_in g t = (slice_index_or g.marks t unmarked).depth
 
 -- the table at that place of the queue
 abbrev pub placed : Growth → ℕ → ℕ
 placed g i = slice_index g.queue i
 
 -- how many tables have no root yet
-abbrev pub missing : List (Option ℕ) → ℕ
+abbrev pub missing : List Mark → ℕ
 missing [] = 0
-missing (o ∷ os) = cond (is_some o) 0 1 + missing os
+missing (x ∷ xs) = cond (is_some x.root) 0 1 + missing xs
 
 -- t joins at the end of the queue
 abbrev pub reached : Growth → ℕ → ℕ → ℕ → Growth
-reached g t r e = record { roots = slice_set g.roots t (Some r); depths = slice_set g.depths t e; queue = slice_set g.queue g.count t; count = g.count + 1 }
+reached g t r e = record { marks = slice_set g.marks t (record { root = Some r; depth = e }); queue = slice_set g.queue g.count t; count = g.count + 1 }
 
 -- t was reached from r: the lowest table of its group, which was reached itself
 pub record From (m : Layout) (g : Growth) (t r : ℕ) : Type 0 where
@@ -37,10 +42,9 @@ pub record From (m : Layout) (g : Growth) (t r : ℕ) : Type 0 where
 
 -- what always holds, where so many tables were taken from the queue
 pub record Sound (m : Layout) (taken : ℕ) (g : Growth) : Type 0 where
-  pub roots_long : length g.roots ≡ 256
-  pub depths_long : length g.depths ≡ 256
+  pub marks_long : length g.marks ≡ 256
   pub queue_long : length g.queue ≡ 256
-  pub counted : g.count + missing g.roots ≡ 256
+  pub counted : g.count + missing g.marks ≡ 256
   pub taken_few : taken ≤ g.count
   -- the queue has the tables that were reached
   pub small : (i : ℕ) → i < g.count → placed g i < 256
@@ -70,3 +74,8 @@ pub record Kept (old new : Growth) : Type 0 where
   pub depths : (t r : ℕ) → root_in old t ≡ Some r → depth_in new t ≡ depth_in old t
   pub places : (i : ℕ) → i < old.count → placed new i ≡ placed old i
   pub more : old.count ≤ new.count
+
+-- the groups of the tables below i are reached
+pub record Swept (m : Layout) (i : ℕ) (g : Growth) : Type 0 where
+  pub sound : Sound m g.count g
+  pub done : (x : ℕ) → x < i → present m x ≡ true → (r : ℕ) × (root_in g x ≡ Some r)

@@ -1,20 +1,26 @@
-ghost use Rattle.std.specs.Prelude.{◌≡◌, ℕ, suc, ◌<◌, ◌≤◌, true, Some, None};
+ghost use Rattle.std.specs.Prelude.{◌≡◌, ℕ, suc, ◌+◌, ◌<◌, ◌≤◌, true, Some, None};
 ghost use Rattle.map.specs.Layouts.{layout};
 ghost use Rattle.links.specs.Links.{near, present};
 ghost use Rattle.links.specs.Groups.{RootOf};
 ghost use Rattle.links.specs.Trees.{root_of, depth};
-ghost use Rattle.tree.specs.Growths.{root_in, depth_in, reached, Sound, Spreading, Seen, Kept};
+ghost use Rattle.tree.specs.Growths.{root_in, depth_in, reached, Sound, Spreading, Seen, Kept, Swept};
 
 use crate::near::{is_present, near};
 use map::map::Map;
 use map::side::Side;
 
-/// The tables reached so far, each with its root and its depth, and the order in which they
-/// were reached.
+/// What is known of a table: its root, once it was reached, and its depth.
+#[derive(Clone, Copy)]
+pub struct Mark {
+    pub root: Option<u8>,
+    pub depth: u8,
+}
+
+/// The marks of the tables, and those reached so far in the order in which they were reached:
+/// arrays, since the library has no heap.
 #[derive(Clone, Copy)]
 pub struct Growth {
-    pub roots: [Option<u8>; 256],
-    pub depths: [u8; 256],
+    pub marks: [Mark; 256],
     queue: [u8; 256],
     count: usize,
 }
@@ -25,8 +31,10 @@ impl Growth {
         requires { self.old.count < 256 }
         ensures { self.new ≡ reached self.old table root depth }
     {
-        self.roots[table as usize] = Some(root);
-        self.depths[table as usize] = depth;
+        self.marks[table as usize] = Mark {
+            root: Some(root),
+            depth,
+        };
         self.queue[self.count] = table;
         self.count += 1;
     }
@@ -43,8 +51,8 @@ impl Growth {
         let Some(other) = near(map, table, side) else {
             return;
         };
-        if self.roots[other as usize].is_none() {
-            let depth = self.depths[table as usize] + 1;
+        if self.marks[other as usize].root.is_none() {
+            let depth = self.marks[table as usize].depth + 1;
             self.reach(other, root, depth);
         }
     }
@@ -56,10 +64,9 @@ impl Growth {
         ensures spreading { Spreading (layout map.now) root (suc place) self.new }
         ensures kept { Kept self.old self.new }
     {
-        self.visit(map, root, place, Side::North);
-        self.visit(map, root, place, Side::East);
-        self.visit(map, root, place, Side::South);
-        self.visit(map, root, place, Side::West);
+        for side in [Side::North, Side::East, Side::South, Side::West] {
+            self.visit(map, root, place, side);
+        }
     }
 
     // Reaches the group of the root, each table from the first taken from the queue that is next
@@ -75,29 +82,40 @@ impl Growth {
     {
         let mut place = self.count;
         self.reach(root, root, 0);
+        // a while, since the queue grows under it
         while place < self.count {
             self.look_around(map, root, place);
             place += 1;
         }
     }
+
+    // Reaches the group of the table, where it is in one that was not reached: the first table of
+    // a group that is met is its lowest.
+    fn reach_group(&mut self, map: &Map, table: u8)
+        requires { Swept (layout map.now) table self.old }
+        ensures { Swept (layout map.now) (table + 1) self.new }
+    {
+        if is_present(map, table) && self.marks[table as usize].root.is_none() {
+            self.spread(map, table);
+        }
+    }
 }
 
-/// The root and the depth of each table: the first table of a group that is met is its lowest.
+/// The root and the depth of each table.
 pub fn grow(map: &Map) -> Growth
     ensures roots { (t : ℕ) → root_in result t ≡ root_of (layout map.now) t }
     ensures depths { (t : ℕ) → depth_in result t ≡ depth (layout map.now) t }
 {
     let mut growth = Growth {
-        roots: [None; 256],
-        depths: [0; 256],
+        marks: [Mark {
+            root: None,
+            depth: 0,
+        }; 256],
         queue: [0; 256],
         count: 0,
     };
-    for i in 0..256usize {
-        let table = i as u8;
-        if is_present(map, table) && growth.roots[i].is_none() {
-            growth.spread(map, table);
-        }
+    for table in 0..=255u8 {
+        growth.reach_group(map, table);
     }
     growth
 }

@@ -2,16 +2,17 @@ ghost use Rattle.std.specs.Prelude.{◌≡◌, ℕ};
 ghost use Rattle.map.specs.Floors.{beside};
 ghost use Rattle.map.specs.Layouts.{layout};
 ghost use Rattle.links.specs.Courses.{Meaning, Leads};
-ghost use Rattle.links.specs.Ways.{child_on, reversed, towards, one_group, tree_way, tree_key, is_side, key_at};
+ghost use Rattle.links.specs.Ways.{child_on, towards, one_group, tree_way, tree_key, key_at};
 ghost use Rattle.links.specs.Words.{WaysMeant, KeysMeant};
-ghost use Rattle.tree.specs.Finders.{Holds, roots_of, depths_of, sides_of, parents_of, way_by, key_by};
+ghost use Rattle.tree.specs.Finders.{Holds, node_of, roots_of, depths_of, sides_of, parents_of, way_by, key_by};
 
 use crate::growth::grow;
-use crate::upward::{parents_of, sides_of};
+use crate::upward::{Node, Upward};
 use map::map::Map;
 use map::side::Side;
 use orders::key::Pair;
 use orders::ranker::Ranker;
+use std::array;
 use ways::finder::WayFinder;
 
 // The key of a segment that joins no table with its parent.
@@ -20,13 +21,11 @@ const OFF_TREE: Pair<u16, u16> = Pair {
     second: 0,
 };
 
-/// The trees of all groups of a map: of each table its root, its depth and its parent.
+/// The trees of all groups of a map: of each table its root, its depth and its parent. An array,
+/// since the library has no heap.
 #[derive(Clone, Copy)]
 pub struct Tree {
-    roots: [Option<u8>; 256],
-    depths: [u8; 256],
-    sides: [Option<Side>; 256],
-    parents: [Option<u8>; 256],
+    nodes: [Node; 256],
 }
 
 impl Tree {
@@ -40,20 +39,19 @@ impl Tree {
         ensures leads { Leads (layout map.now) }
     {
         let growth = grow(map);
-        let sides = sides_of(map, &growth.depths);
-        let parents = parents_of(map, &sides);
+        let upward = Upward {
+            map,
+            growth: &growth,
+        };
         Tree {
-            roots: growth.roots,
-            depths: growth.depths,
-            sides,
-            parents,
+            nodes: array::from_fn(|table| upward.node(table as u8)),
         }
     }
 
-    fn parent(&self, table: u8) -> Option<u8>
-        ensures { result ≡ parents_of self.now table }
+    fn node(&self, table: u8) -> Node
+        ensures { result ≡ node_of self.now table }
     {
-        self.parents[table as usize]
+        self.nodes[table as usize]
     }
 
     // The table on the line from the destination to its root whose parent is the table.
@@ -61,10 +59,8 @@ impl Tree {
         ensures { result ≡ child_on (parents_of self.now) 255 table destination }
     {
         let mut x = destination;
-        for i in 0..255u16 {
-            let Some(parent) = self.parent(x) else {
-                return None;
-            };
+        for _ in 0..255u16 {
+            let parent = self.node(x).parent?;
             if parent == table {
                 return Some(x);
             }
@@ -78,8 +74,8 @@ impl Tree {
         ensures { result ≡ towards (sides_of self.now) table (child_on (parents_of self.now) 255 table destination) }
     {
         match self.child(table, destination) {
-            None => self.sides[table as usize],
-            Some(child) => reversed(self.sides[child as usize]),
+            None => self.node(table).side,
+            Some(child) => self.node(child).side.map(Side::opposite),
         }
     }
 
@@ -87,48 +83,33 @@ impl Tree {
     fn one_group(&self, table: u8, destination: u8) -> bool
         ensures { result ≡ one_group (roots_of self.now table) (roots_of self.now destination) }
     {
-        match (self.roots[table as usize], self.roots[destination as usize]) {
-            (Some(a), Some(b)) => a == b,
-            _ => false,
-        }
+        let (root, other) = (self.node(table).root, self.node(destination).root);
+        root.zip(other).is_some_and(|(a, b)| a == b)
     }
 
     // The key of the segment that leaves the table on that side.
     fn key_at(&self, table: u8, side: Side) -> Pair<u16, u16>
         ensures { result ≡ key_at (beside 16 16) (depths_of self.now) (sides_of self.now) table side }
     {
-        if is_side(self.sides[table as usize], side) {
+        let node = self.node(table);
+        if node.side == Some(side) {
             return Pair {
                 first: 0,
-                second: 255 - self.depths[table as usize] as u16,
+                second: 255 - u16::from(node.depth),
             };
         }
         let Some(other) = beside(table, side) else {
             return OFF_TREE;
         };
-        if is_side(self.sides[other as usize], side.opposite()) {
+        let child = self.node(other);
+        if child.side == Some(side.opposite()) {
             Pair {
                 first: 1,
-                second: self.depths[other as usize] as u16,
+                second: u16::from(child.depth),
             }
         } else {
             OFF_TREE
         }
-    }
-}
-
-fn reversed(side: Option<Side>) -> Option<Side>
-    ensures { result ≡ reversed side }
-{
-    Some(side?.opposite())
-}
-
-fn is_side(side: Option<Side>, other: Side) -> bool
-    ensures { result ≡ is_side side other }
-{
-    match side {
-        None => false,
-        Some(s) => s.number() == other.number(),
     }
 }
 
