@@ -7,7 +7,7 @@ ghost use Rattle.tree.specs.Growths.{root_in, depth_in, reached, Sound, Spreadin
 
 use crate::near::{is_present, near};
 use map::map::Map;
-use map::side::Side;
+use map::side::{SIDES, Side};
 
 /// What is known of a table: its root, once it was reached, and its depth.
 #[derive(Clone, Copy)]
@@ -64,7 +64,7 @@ impl Growth {
         ensures spreading { Spreading (layout map.now) root (suc place) self.new }
         ensures kept { Kept self.old self.new }
     {
-        for side in [Side::North, Side::East, Side::South, Side::West] {
+        for side in SIDES {
             self.visit(map, root, place, side);
         }
     }

@@ -10,6 +10,7 @@ use crate::growth::grow;
 use crate::upward::{Node, Upward};
 use map::map::Map;
 use map::side::Side;
+use map::size::LARGEST;
 use orders::key::Pair;
 use orders::ranker::Ranker;
 use std::array;
@@ -98,7 +99,8 @@ impl Tree {
                 second: 255 - u16::from(node.depth),
             };
         }
-        let Some(other) = beside(table, side) else {
+        // a tree has no map: neighbours are those on the largest floor
+        let Some(other) = LARGEST.beside(table, side) else {
             return OFF_TREE;
         };
         let child = self.node(other);
@@ -111,27 +113,6 @@ impl Tree {
             OFF_TREE
         }
     }
-}
-
-// The table on that side on the largest floor.
-fn beside(table: u8, side: Side) -> Option<u8>
-    ensures { result ≡ beside 16 16 table side }
-{
-    let there = match side {
-        Side::North => table / 16 > 0,
-        Side::East => table % 16 < 15,
-        Side::South => table / 16 < 15,
-        Side::West => table % 16 > 0,
-    };
-    if !there {
-        return None;
-    }
-    Some(match side {
-        Side::North => table - 16,
-        Side::East => table + 1,
-        Side::South => table + 16,
-        Side::West => table - 1,
-    })
 }
 
 impl WayFinder for Tree {

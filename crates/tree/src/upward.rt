@@ -8,7 +8,7 @@ ghost use Rattle.tree.specs.Nodes.{node_in};
 use crate::growth::Growth;
 use crate::near::near;
 use map::map::Map;
-use map::side::Side;
+use map::side::{SIDES, Side};
 
 /// A table in its tree: its root, its depth, and its parent with the side towards it.
 #[derive(Clone, Copy)]
@@ -41,7 +41,7 @@ impl Upward<'_> {
     fn side(&self, table: u8) -> Option<Side>
         ensures { result ≡ up_side (near (layout self.now.map.now)) (depth_in self.now.growth.now) table }
     {
-        [Side::North, Side::East, Side::South, Side::West]
+        SIDES
             .iter()
             .copied()
             .find(|side| self.is_nearer(table, *side))
