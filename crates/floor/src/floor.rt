@@ -124,6 +124,7 @@ impl<W: WayFinder> Floor<W> {
     }
 
     /// How many segments are on the remaining route of the tray on the segment, its own included.
+    #[tactic(auto, using(trays::proofs::Walks::left_tells))]
     pub fn left(&self, segment: u16) -> Result<u16, Refusal>
         ensures is { result ≡ left_outcome (site_in W.WayFinder self.now) self.now.trays segment }
         ensures tells { LeftTells (site_in W.WayFinder self.now) self.now.trays segment }
