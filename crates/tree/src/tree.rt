@@ -124,6 +124,7 @@ impl WayFinder for Tree {
         0
     }
 
+    #[tactic(auto, unfolding(links::specs::Ways::way_over))]
     fn way(&self, table: u8, destination: u8, note: u32) -> Option<(Side, u32)> {
         if table == destination {
             return None;
@@ -140,6 +141,7 @@ impl Ranker for Tree {
 
     ghost key = { key_by };
 
+    #[tactic(auto, unfolding(links::specs::Ways::key_over))]
     fn key(&self, segment: u16) -> Pair<u16, u16> {
         if segment >= 1024 {
             return OFF_TREE;
