@@ -56,6 +56,7 @@ impl Tree {
     }
 
     // The table on the line from the destination to its root whose parent is the table.
+    #[tactic(auto, using(crate::proofs::Climbs::climbs))]
     fn child(&self, table: u8, destination: u8) -> Option<u8>
         ensures { result ≡ child_on (parents_of self.now) 255 table destination }
     {
