@@ -51,6 +51,7 @@ impl Vias {
     }
 
     /// Takes the pair's via out.
+    #[tactic(auto, using(crate::proofs::Places::clear_all))]
     pub(crate) fn remove(&mut self, origin: u8, destination: u8)
         ensures { self.new ≡ without self.old origin destination }
     {

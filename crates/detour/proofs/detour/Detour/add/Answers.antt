@@ -3,8 +3,8 @@ use Rattle.detour.specs.Vias.{free_in}
 use Rattle.detour.proofs.Pairs.{added, is_none}
 use Rattle.detour.proofs.detour.Detour.add.Goals as goal
 
-pub returns : goal.returns
-returns g c =
+pub returns-clause-only : goal.returns-clause-only
+returns-clause-only g c =
     let free : free_in c.args.self.now.vias.places ≡ Some c.in_ok-place.place = sym c.free_place.ensures.is ∙ search rules in
     let none = sym c.find.ensures ∙ is_none _ (sym c.if-is_some.ensures) in
-    record { outcome = search rules; later = search rules; only = added _ _ _ c.args.self.now.vias.places _ free none }
+    added _ _ _ c.args.self.now.vias.places _ free none
