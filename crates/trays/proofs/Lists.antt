@@ -3,6 +3,9 @@ use Rattle.std.proofs.Common.{◌≡◌, ℕ, zero, suc, ◌+◌, ◌<◌, List,
 use Rattle.std.proofs.lemmas.Option.{none-some}
 
 module _ {A : Type 0} where
+  pub none_some : (x : Option A) (a : A) → x ≡ None → x ≡ Some a → ⊥
+  none_some x a p q = cc
+
   pub nil_cons : (x : A) (xs l : List A) → l ≡ [] → l ≡ x ∷ xs → ⊥
   nil_cons x xs l p q = cc
 
