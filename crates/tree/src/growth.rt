@@ -3,9 +3,10 @@ ghost use Rattle.map.specs.Layouts.{layout};
 ghost use Rattle.links.specs.Links.{near, present};
 ghost use Rattle.links.specs.Groups.{RootOf};
 ghost use Rattle.links.specs.Trees.{root_of, depth};
-ghost use Rattle.tree.specs.Growths.{root_in, depth_in, reached, Sound, Spreading, Seen, Kept, Swept};
+ghost use Rattle.tree.specs.Growths.{root_in, depth_in, placed, count, reached, Sound, Spreading, Seen, Kept, Swept};
 
 use crate::near::{is_present, near};
+use arrayvec::ArrayVec;
 use map::map::Map;
 use map::side::{SIDES, Side};
 
@@ -17,37 +18,42 @@ pub struct Mark {
 }
 
 /// The marks of the tables, and those reached so far in the order in which they were reached:
-/// arrays, since the library has no heap.
-#[derive(Clone, Copy)]
+/// nothing on the heap.
+#[derive(Drop)]
 pub struct Growth {
     pub marks: [Mark; 256],
-    queue: [u8; 256],
-    count: usize,
+    queue: ArrayVec<u8, 256>,
 }
 
 impl Growth {
     // The table joins at the end of the queue.
     fn reach(&mut self, table: u8, root: u8, depth: u8)
-        requires { self.old.count < 256 }
+        requires { count self.old < 256 }
         ensures { self.new ≡ reached self.old table root depth }
     {
         self.marks[table as usize] = Mark {
             root: Some(root),
             depth,
         };
-        self.queue[self.count] = table;
-        self.count += 1;
+        self.queue.push(table);
+    }
+
+    fn placed(&self, place: usize) -> u8
+        requires { place < count self.now }
+        ensures { result ≡ placed self.now place }
+    {
+        self.queue[place]
     }
 
     // Reaches the neighbour over the link on that side of the table at this place of the queue.
     fn visit(&mut self, map: &Map, root: u8, place: usize, side: Side)
         requires spreading { Spreading (layout map.now) root place self.old }
-        requires within { place < self.old.count }
+        requires within { place < count self.old }
         ensures spreading { Spreading (layout map.now) root place self.new }
         ensures kept { Kept self.old self.new }
         ensures seen { Seen (layout map.now) root place side self.new }
     {
-        let table = self.queue[place];
+        let table = self.placed(place);
         let Some(other) = near(map, table, side) else {
             return;
         };
@@ -60,7 +66,7 @@ impl Growth {
     // Reaches the neighbours of the table at this place of the queue.
     fn look_around(&mut self, map: &Map, root: u8, place: usize)
         requires spreading { Spreading (layout map.now) root place self.old }
-        requires within { place < self.old.count }
+        requires within { place < count self.old }
         ensures spreading { Spreading (layout map.now) root (suc place) self.new }
         ensures kept { Kept self.old self.new }
     {
@@ -72,18 +78,18 @@ impl Growth {
     // Reaches the group of the root, each table from the first taken from the queue that is next
     // to it: in the queue depths never fall.
     fn spread(&mut self, map: &Map, root: u8)
-        requires sound { Sound (layout map.now) self.old.count self.old }
+        requires sound { Sound (layout map.now) (count self.old) self.old }
         requires fresh { root_in self.old root ≡ None }
         requires there { present (layout map.now) root ≡ true }
         requires lowest { RootOf (near (layout map.now)) root root }
-        ensures sound { Sound (layout map.now) self.new.count self.new }
+        ensures sound { Sound (layout map.now) (count self.new) self.new }
         ensures kept { Kept self.old self.new }
         ensures own { root_in self.new root ≡ Some root }
     {
-        let mut place = self.count;
+        let mut place = self.queue.len();
         self.reach(root, root, 0);
         // a while, since the queue grows under it
-        while place < self.count {
+        while place < self.queue.len() {
             self.look_around(map, root, place);
             place += 1;
         }
@@ -111,8 +117,7 @@ pub fn grow(map: &Map) -> Growth
             root: None,
             depth: 0,
         }; 256],
-        queue: [0; 256],
-        count: 0,
+        queue: ArrayVec::new(),
     };
     for table in 0..=255u8 {
         growth.reach_group(map, table);

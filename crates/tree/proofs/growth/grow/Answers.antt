@@ -1,4 +1,4 @@
-use Rattle.std.proofs.Common.{◌≡◌, ◌+◌, subst, arith}
+use Rattle.std.proofs.Common.{◌≡◌, ◌+◌, [], subst, arith, rules}
 use Rattle.map.specs.Layouts.{layout}
 use Rattle.links.proofs.Nearby.{map_sized}
 use Rattle.tree.specs.Growths.{Swept}
@@ -6,7 +6,9 @@ use Rattle.tree.proofs.Sweeps.{swept_none, roots_all, depths_all}
 use Rattle.tree.proofs.growth.grow.Goals as goal
 
 pub loop-table-init : goal.loop-table-init
-loop-table-init c = swept_none (layout c.args.map.now)
+loop-table-init c =
+    let none : c.new.result ≡ record { items = [] } = search rules in
+    rw none (swept_none (layout c.args.map.now))
 
 pub returns-2 : goal.returns-2
 returns-2 c =
