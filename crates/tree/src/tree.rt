@@ -4,7 +4,7 @@ ghost use Rattle.map.specs.Layouts.{layout};
 ghost use Rattle.links.specs.Courses.{Meaning, Leads};
 ghost use Rattle.links.specs.Ways.{child_on, towards, one_group, tree_way, tree_key, key_at};
 ghost use Rattle.links.specs.Words.{WaysMeant, KeysMeant};
-ghost use Rattle.tree.specs.Finders.{Holds, node_of, roots_of, depths_of, sides_of, parents_of, way_by, key_by};
+ghost use Rattle.tree.specs.Finders.{Holds, roots_of, depths_of, sides_of, parents_of, way_by, key_by};
 
 use crate::growth::grow;
 use crate::upward::{Node, Upward};
@@ -49,12 +49,6 @@ impl Tree {
         }
     }
 
-    fn node(&self, table: u8) -> Node
-        ensures { result ≡ node_of self.now table }
-    {
-        self.nodes[table as usize]
-    }
-
     // The table on the line from the destination to its root whose parent is the table.
     #[tactic(auto, using(crate::proofs::Climbs::climbs))]
     fn child(&self, table: u8, destination: u8) -> Option<u8>
@@ -62,7 +56,7 @@ impl Tree {
     {
         let mut x = destination;
         for _ in 0..255u16 {
-            let parent = self.node(x).parent?;
+            let parent = self.nodes[x as usize].parent?;
             if parent == table {
                 return Some(x);
             }
@@ -76,8 +70,8 @@ impl Tree {
         ensures { result ≡ towards (sides_of self.now) table (child_on (parents_of self.now) 255 table destination) }
     {
         match self.child(table, destination) {
-            None => self.node(table).side,
-            Some(child) => self.node(child).side.map(Side::opposite),
+            None => self.nodes[table as usize].side,
+            Some(child) => self.nodes[child as usize].side.map(Side::opposite),
         }
     }
 
@@ -85,7 +79,8 @@ impl Tree {
     fn one_group(&self, table: u8, destination: u8) -> bool
         ensures { result ≡ one_group (roots_of self.now table) (roots_of self.now destination) }
     {
-        let (root, other) = (self.node(table).root, self.node(destination).root);
+        let root = self.nodes[table as usize].root;
+        let other = self.nodes[destination as usize].root;
         root.zip(other).is_some_and(|(a, b)| a == b)
     }
 
@@ -93,22 +88,22 @@ impl Tree {
     fn key_at(&self, table: u8, side: Side) -> Pair<u16, u16>
         ensures { result ≡ key_at (beside 16 16) (depths_of self.now) (sides_of self.now) table side }
     {
-        let node = self.node(table);
+        let node = &self.nodes[table as usize];
         if node.side == Some(side) {
             return Pair {
                 first: 0,
-                second: 255 - u16::from(node.depth),
+                second: 255u16.saturating_sub(node.depth),
             };
         }
         // a tree has no map: neighbours are those on the largest floor
         let Some(other) = LARGEST.beside(table, side) else {
             return OFF_TREE;
         };
-        let child = self.node(other);
+        let child = &self.nodes[other as usize];
         if child.side == Some(side.opposite()) {
             Pair {
                 first: 1,
-                second: u16::from(child.depth),
+                second: child.depth,
             }
         } else {
             OFF_TREE

@@ -10,11 +10,12 @@ use crate::near::near;
 use map::map::Map;
 use map::side::{SIDES, Side};
 
-/// A table in its tree: its root, its depth, and its parent with the side towards it.
+/// A table in its tree: its root, its depth, and its parent with the side towards it. With a depth
+/// of 16 bits a node has 8 bytes, which makes the climb from node to node faster than 7 do.
 #[derive(Clone, Copy)]
 pub struct Node {
     pub root: Option<u8>,
-    pub depth: u8,
+    pub depth: u16,
     pub side: Option<Side>,
     pub parent: Option<u8>,
 }
@@ -54,7 +55,7 @@ impl Upward<'_> {
         let side = self.side(table);
         Node {
             root: mark.root,
-            depth: mark.depth,
+            depth: u16::from(mark.depth),
             side,
             parent: side.and_then(|side| near(self.map, table, side)),
         }
