@@ -25,6 +25,7 @@ pub struct Growth {
     queue: ArrayVec<u8, 256>,
 }
 
+// The map is passed along: kept in the struct, each clause would have to say that it stays.
 impl Growth {
     // The table joins at the end of the queue.
     fn reach(&mut self, table: u8, root: u8, depth: u8)
