@@ -45,10 +45,10 @@ module _ (m : Layout) (taken : ℕ) (g : Growth) (u r e : ℕ) (h : Sound m take
   depth_old : (t : ℕ) → (t ≡ u → ⊥) → depth_in new t ≡ depth_in g t
   depth_old t ne = ap (λ (x : Mark). x.depth) (get_or-set_other g.marks u t _ unmarked ne)
 
-  place_old : (i : ℕ) → i < (count g) → placed new i ≡ placed g i
+  place_old : (i : ℕ) → i < count g → placed new i ≡ placed g i
   place_old i l = get_or_append_left g.queue.items (u ∷ []) 0 i l
 
-  pub one_more : (count new) ≡ (count g) + 1
+  pub one_more : (count new) ≡ count g + 1
   one_more = length_push g.queue.items u
 
   -- what was reached is another table
@@ -63,13 +63,13 @@ module _ (m : Layout) (taken : ℕ) (g : Growth) (u r e : ℕ) (h : Sound m take
     more = omega (arith, one_more);
   }
 
-  other_place : (i : ℕ) → i < (count g) → placed g i ≡ u → ⊥
+  other_place : (i : ℕ) → i < count g → placed g i ≡ u → ⊥
   other_place i l = let k = h.known i l in other (placed g i) k.0 k.1
 
-  depth_place : (i : ℕ) → i < (count g) → depth_in new (placed new i) ≡ depth_in g (placed g i)
+  depth_place : (i : ℕ) → i < count g → depth_in new (placed new i) ≡ depth_in g (placed g i)
   depth_place i l = ap (depth_in new) (place_old i l) ∙ depth_old (placed g i) (other_place i l)
 
-  root_place : (i : ℕ) → i < (count g) → root_in new (placed new i) ≡ root_in g (placed g i)
+  root_place : (i : ℕ) → i < count g → root_in new (placed new i) ≡ root_in g (placed g i)
   root_place i l = ap (root_in new) (place_old i l) ∙ root_old (placed g i) (other_place i l)
 
   depth_last : depth_in new (placed new (count g)) ≡ e
@@ -79,10 +79,10 @@ module _ (m : Layout) (taken : ℕ) (g : Growth) (u r e : ℕ) (h : Sound m take
   root_last = ap (root_in new) place_new ∙ root_new
 
   -- what holds of each place before, and of the last
-  each_place : (P : ℕ → Type 0) → ((i : ℕ) → i < (count g) → P i) → P (count g) → (i : ℕ) → i < (count new) → P i
+  each_place : (P : ℕ → Type 0) → ((i : ℕ) → i < count g → P i) → P (count g) → (i : ℕ) → i < count new → P i
   each_place P below here i l = elim (cases_eq i (count g)) [ inl is ↦ subst P (sym is) here | inr ne ↦ below i (omega (arith, one_more)) ]
 
-  module _ (there : present m u ≡ true) (lowest : RootOf (near m) r r) (chain : Chain (near m) r u e) (few : e ≤ (count g)) (origin : Origin g u r e) where
+  module _ (there : present m u ≡ true) (lowest : RootOf (near m) r r) (chain : Chain (near m) r u e) (few : e ≤ count g) (origin : Origin g u r e) where
     own_new : Origin g u r e → root_in new r ≡ Some r
     own_new (inl o) = ap (root_in new) o.0 ∙ root_new
     own_new (inr o) = kept.roots r r o.0
@@ -114,7 +114,7 @@ module _ (m : Layout) (taken : ℕ) (g : Growth) (u r e : ℕ) (h : Sound m take
           | inr ne ↦ from_old t q (sym (root_old t ne) ∙ is)
         ]
 
-    queued_each : (t q : ℕ) → root_in new t ≡ Some q → (i : ℕ) × (i < (count new)) × (placed new i ≡ t)
+    queued_each : (t q : ℕ) → root_in new t ≡ Some q → (i : ℕ) × (i < count new) × (placed new i ≡ t)
     queued_each t q is =
         elim (cases_eq t u) [
           | inl same ↦ ((count g), omega (arith, one_more), place_new ∙ sym same)
@@ -130,7 +130,7 @@ module _ (m : Layout) (taken : ℕ) (g : Growth) (u r e : ℕ) (h : Sound m take
 
     around_each : (i v : ℕ) (s : Side) → i < taken → near m (placed new i) s ≡ Some v → (root_in new v ≡ root_in new (placed new i)) × (depth_in new v ≤ depth_in new (placed new i) + 1)
     around_each i v s l over =
-        let li : i < (count g) = omega (arith, h.taken_few) in
+        let li : i < count g = omega (arith, h.taken_few) in
         let a = h.around i v s l (ap (λ x. near m x s) (sym (place_old i li)) ∙ over) in
         let k = h.known i li in
         let known : root_in g v ≡ Some k.0 = a.0 ∙ k.1 in
@@ -151,7 +151,7 @@ module _ (m : Layout) (taken : ℕ) (g : Growth) (u r e : ℕ) (h : Sound m take
     }
 
 -- a link of the table that is taken leads to one not reached before
-module _ (m : Layout) (size : Sized m) (r place : ℕ) (g : Growth) (h : Spreading m r place g) (l : place < (count g)) (s : Side) (u : ℕ) (over : near m (placed g place) s ≡ Some u) where
+module _ (m : Layout) (size : Sized m) (r place : ℕ) (g : Growth) (h : Spreading m r place g) (l : place < count g) (s : Side) (u : ℕ) (over : near m (placed g place) s ≡ Some u) where
   abbrev here : ℕ
   here = placed g place
 
@@ -168,7 +168,7 @@ module _ (m : Layout) (size : Sized m) (r place : ℕ) (g : Growth) (h : Spreadi
     abbrev later : Growth
     later = reached g u r e
 
-    few : e ≤ (count g)
+    few : e ≤ count g
     few = omega (arith, h.sound.shallow place l)
 
     chained : Chain (near m) r u e
@@ -182,17 +182,17 @@ module _ (m : Layout) (size : Sized m) (r place : ℕ) (g : Growth) (h : Spreadi
         let f = h.sound.from here r mine in
         sound m place g u r e h.sound within fresh (near_present m size u here (opposite s) back) f.lowest chained few (inr (f.own, f.none))
 
-    depth_at : (i : ℕ) → i < (count g) → depth_in later (placed later i) ≡ depth_in g (placed g i)
+    depth_at : (i : ℕ) → i < count g → depth_in later (placed later i) ≡ depth_in g (placed g i)
     depth_at = depth_place m place g u r e h.sound within fresh
 
     depth_end : depth_in later (placed later (count g)) ≡ e
     depth_end = depth_last m place g u r e h.sound within fresh
 
     -- no table from the one taken on is deeper than the new one
-    not_deeper : (i : ℕ) → place ≤ i → i < (count g) → depth_in g (placed g i) ≤ e
+    not_deeper : (i : ℕ) → place ≤ i → i < count g → depth_in g (placed g i) ≤ e
     not_deeper i p q = omega (arith, h.level (placed g i) l (h.own i p q))
 
-    sorted_new : (i j : ℕ) → place ≤ i → i ≤ j → j < (count later) → depth_in later (placed later i) ≤ depth_in later (placed later j)
+    sorted_new : (i j : ℕ) → place ≤ i → i ≤ j → j < count later → depth_in later (placed later i) ≤ depth_in later (placed later j)
     sorted_new i j p q k =
         let more = one_more m place g u r e h.sound within fresh in
         elim (cases_eq j (count g)) [
@@ -212,7 +212,7 @@ module _ (m : Layout) (size : Sized m) (r place : ℕ) (g : Growth) (h : Spreadi
               omega (arith, depth_old m place g u r e h.sound within fresh v ne, depth_at place l, h.level v l old))
         ]
 
-    own_each : (i : ℕ) → place ≤ i → i < (count later) → root_in later (placed later i) ≡ Some r
+    own_each : (i : ℕ) → place ≤ i → i < count later → root_in later (placed later i) ≡ Some r
     own_each i p q =
         let more = one_more m place g u r e h.sound within fresh in
         elim (cases_eq i (count g)) [
@@ -266,7 +266,7 @@ kept_on f g h a b = record {
 
 module _ (m : Layout) (r place : ℕ) where
   -- what was seen stays so
-  pub seen_kept : (s : Side) (g h : Growth) → Spreading m r place g → place < (count g) → Kept g h → Seen m r place s g → Seen m r place s h
+  pub seen_kept : (s : Side) (g h : Growth) → Spreading m r place g → place < count g → Kept g h → Seen m r place s g → Seen m r place s h
   seen_kept s g h p l k seen u e =
       let at : placed h place ≡ placed g place = k.places place l in
       let o = seen u (ap (λ x. near m x s) (sym at) ∙ e) in
@@ -274,7 +274,7 @@ module _ (m : Layout) (r place : ℕ) where
       (k.roots u r o.0, omega (arith, o.1, k.depths u r o.0))
 
   -- with all four sides seen the next table is taken
-  module _ (g : Growth) (h : Spreading m r place g) (l : place < (count g)) (seen : (s : Side) → Seen m r place s g) where
+  module _ (g : Growth) (h : Spreading m r place g) (l : place < count g) (seen : (s : Side) → Seen m r place s g) where
     around_more : (i u : ℕ) (s : Side) → i < suc place → near m (placed g i) s ≡ Some u → (root_in g u ≡ root_in g (placed g i)) × (depth_in g u ≤ depth_in g (placed g i) + 1)
     around_more i u s k e =
         elim (cases_eq i place) [
@@ -317,7 +317,7 @@ module _ (m : Layout) (r : ℕ) (g : Growth) (h : Sound m (count g) g) (small : 
   abbrev begun : Growth
   begun = reached g r r 0
 
-  more_begun : (count begun) ≡ (count g) + 1
+  more_begun : (count begun) ≡ count g + 1
   more_begun = one_more m (count g) g r r 0 h small fresh
 
   sound_begun : Sound m (count g) begun
@@ -326,7 +326,7 @@ module _ (m : Layout) (r : ℕ) (g : Growth) (h : Sound m (count g) g) (small : 
   pub begins : Spreading m r (count g) begun
   begins = record {
     sound = sound_begun;
-    own = λ i p q. (let is : i ≡ (count g) = omega (arith, more_begun) in ap (λ x. root_in begun (placed begun x)) is ∙ root_last m (count g) g r r 0 h small fresh);
+    own = λ i p q. (let is : i ≡ count g = omega (arith, more_begun) in ap (λ x. root_in begun (placed begun x)) is ∙ root_last m (count g) g r r 0 h small fresh);
     sorted = λ i j p q k. (let is : i ≡ j = omega (arith, more_begun) in subst (λ x. depth_in begun (placed begun i) ≤ depth_in begun (placed begun x)) is (omega arith));
     level = λ u p root.
         elim (cases_eq u r) [

@@ -47,13 +47,13 @@ pub record From (m : Layout) (g : Growth) (t r : ℕ) : Type 0 where
 -- what always holds, where so many tables were taken from the queue
 pub record Sound (m : Layout) (taken : ℕ) (g : Growth) : Type 0 where
   pub marks_long : length g.marks ≡ 256
-  pub counted : (count g) + missing g.marks ≡ 256
-  pub taken_few : taken ≤ (count g)
+  pub counted : count g + missing g.marks ≡ 256
+  pub taken_few : taken ≤ count g
   -- the queue has the tables that were reached
-  pub small : (i : ℕ) → i < (count g) → placed g i < 256
-  pub shallow : (i : ℕ) → i < (count g) → depth_in g (placed g i) ≤ i
-  pub known : (i : ℕ) → i < (count g) → (r : ℕ) × (root_in g (placed g i) ≡ Some r)
-  pub queued : (t r : ℕ) → root_in g t ≡ Some r → (i : ℕ) × (i < (count g)) × (placed g i ≡ t)
+  pub small : (i : ℕ) → i < count g → placed g i < 256
+  pub shallow : (i : ℕ) → i < count g → depth_in g (placed g i) ≤ i
+  pub known : (i : ℕ) → i < count g → (r : ℕ) × (root_in g (placed g i) ≡ Some r)
+  pub queued : (t r : ℕ) → root_in g t ≡ Some r → (i : ℕ) × (i < count g) × (placed g i ≡ t)
   pub from : (t r : ℕ) → root_in g t ≡ Some r → From m g t r
   pub unknown : (t : ℕ) → root_in g t ≡ None → depth_in g t ≡ 0
   -- the neighbours of a table that was taken are reached, and not much deeper
@@ -63,9 +63,9 @@ pub record Sound (m : Layout) (taken : ℕ) (g : Growth) : Type 0 where
 -- group, their depths never fall, and no table of it is deeper than that one by more than one
 pub record Spreading (m : Layout) (r place : ℕ) (g : Growth) : Type 0 where
   pub sound : Sound m place g
-  pub own : (i : ℕ) → place ≤ i → i < (count g) → root_in g (placed g i) ≡ Some r
-  pub sorted : (i j : ℕ) → place ≤ i → i ≤ j → j < (count g) → depth_in g (placed g i) ≤ depth_in g (placed g j)
-  pub level : (u : ℕ) → place < (count g) → root_in g u ≡ Some r → depth_in g u ≤ depth_in g (placed g place) + 1
+  pub own : (i : ℕ) → place ≤ i → i < count g → root_in g (placed g i) ≡ Some r
+  pub sorted : (i j : ℕ) → place ≤ i → i ≤ j → j < count g → depth_in g (placed g i) ≤ depth_in g (placed g j)
+  pub level : (u : ℕ) → place < count g → root_in g u ≡ Some r → depth_in g u ≤ depth_in g (placed g place) + 1
 
 -- the neighbour on that side is reached
 abbrev pub Seen : Layout → ℕ → ℕ → Side → Growth → Type 0
@@ -75,8 +75,8 @@ Seen m r place s g = (u : ℕ) → near m (placed g place) s ≡ Some u → (roo
 pub record Kept (old new : Growth) : Type 0 where
   pub roots : (t r : ℕ) → root_in old t ≡ Some r → root_in new t ≡ Some r
   pub depths : (t r : ℕ) → root_in old t ≡ Some r → depth_in new t ≡ depth_in old t
-  pub places : (i : ℕ) → i < (count old) → placed new i ≡ placed old i
-  pub more : (count old) ≤ (count new)
+  pub places : (i : ℕ) → i < count old → placed new i ≡ placed old i
+  pub more : count old ≤ count new
 
 -- the groups of the tables below i are reached
 pub record Swept (m : Layout) (i : ℕ) (g : Growth) : Type 0 where

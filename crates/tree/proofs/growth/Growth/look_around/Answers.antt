@@ -13,7 +13,7 @@ visit-requires-clause-within c = let more = c.loop-side.invariant.kept.more in o
 pub loop-side-preserved : goal.loop-side-preserved
 loop-side-preserved c =
     let so = c.loop-side.invariant in
-    let within : c.args.place < (count c.loop-side.self) = let more = so.kept.more in omega arith in
+    let within : c.args.place < count c.loop-side.self = let more = so.kept.more in omega arith in
     record {
       spreading = c.visit.ensures.spreading;
       kept = kept_on _ _ _ so.kept c.visit.ensures.kept;
@@ -23,5 +23,5 @@ loop-side-preserved c =
 pub returns : goal.returns
 returns c =
     let so = c.loop-side.invariant in
-    let within : c.args.place < (count c.loop-side.self) = let more = so.kept.more in omega arith in
+    let within : c.args.place < count c.loop-side.self = let more = so.kept.more in omega arith in
     record { spreading = taken _ _ _ _ so.spreading within (four_seen (layout c.args.map.now) c.args.root c.args.place c.loop-side.self (λ k l. so.seen k (omega arith))); kept = so.kept }

@@ -23,7 +23,7 @@ pub returns : goal.returns
 returns c =
     let small = present_small _ (map_sized c.args.map.now) _ c.requires.there in
     let s = c.loop-place.invariant.0.sound in
-    let done : c.loop-place.place ≡ (count c.loop-place.self) = omega (arith, s.taken_few) in
+    let done : c.loop-place.place ≡ count c.loop-place.self = omega (arith, s.taken_few) in
     let first = subst (λ g. Kept c.args.self.now g) (sym c.reach.ensures) (kept_begun _ _ _ c.requires.sound small c.requires.fresh c.requires.there c.requires.lowest) in
     let own = subst (λ g. root_in g c.args.root ≡ Some c.args.root) (sym c.reach.ensures) (own_begun _ _ _ c.requires.sound small c.requires.fresh c.requires.there c.requires.lowest) in
     record {
