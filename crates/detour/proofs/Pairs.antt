@@ -1,21 +1,11 @@
 -- Adding a pair's via, and removing it.
-use Rattle.std.proofs.Common.{◌≡◌, ℕ, suc, Bool, true, false, cond, ◌&&◌, List, [], ◌∷◌, map, set, is_some, Some, None, Option, sym, refl, ap, ◌∙◌, inl, inr, arith, eqb-true}
-use Rattle.std.proofs.lemmas.Bool.{cases_Bool, eq-eqb, both_ways}
+use Rattle.std.proofs.Common.{◌≡◌, ℕ, suc, true, false, cond, List, [], ◌∷◌, map, set, is_some, Some, None, Option, sym, refl, ap, ◌∙◌, inl, inr, eqb-true}
+use Rattle.std.proofs.lemmas.Bool.{cases_Bool, eq-eqb, both_ways, and_parts}
+use Rattle.std.proofs.lemmas.Option.{none-some, same_Some}
 use Rattle.detour.specs.declared.vias.Via.{Via}
 use Rattle.detour.specs.declared.vias.Vias.{Vias}
 use Rattle.detour.specs.Vias.{matches, table_in, via_in, later, free_in, cleared, without}
 use Rattle.detour.specs.Promises.{ViaSet}
-
-none_some : {A : Type 0} (x : Option A) (a : A) → x ≡ None → x ≡ Some a → ⊥
-none_some x a p q = let z : ◌≡◌ {A = ℕ} 0 1 = cc in omega arith
-
-some_same : {A : Type 0} (x : Option A) (a c : A) → x ≡ Some a → x ≡ Some c → a ≡ c
-some_same x a c p q = cc
-
-both : (x y : Bool) → (x && y) ≡ true → (x ≡ true) × (y ≡ true)
-both true true e = (refl, refl)
-both true false e = absurd (both_ways false refl e)
-both false y e = absurd (both_ways false refl e)
 
 -- a place that is the one pair's is not the other's
 other : (o d a b : ℕ) (p : Option Via) → ((a ≡ o) × (b ≡ d) → ⊥) → matches o d p ≡ true → matches a b p ≡ false
@@ -24,8 +14,8 @@ other o d a b (Some v) ne m =
     elim (cases_Bool (matches a b (Some v))) [
       | inr e ↦ e
       | inl e ↦
-          let mine = both _ _ m in
-          let yours = both _ _ e in
+          let mine = and_parts _ _ m in
+          let yours = and_parts _ _ e in
           absurd (ne (sym (eqb-true _ _ yours.0) ∙ eqb-true _ _ mine.0, sym (eqb-true _ _ yours.1) ∙ eqb-true _ _ mine.1))
     ]
 
@@ -38,22 +28,22 @@ module _ (o d t : ℕ) where
 
   -- what comes after a place that is taken
   after_taken : (ps : List (Option Via)) (i : ℕ) (x : Option ℕ) → free_in ps ≡ x → later x ≡ Some i → (j : ℕ) × (i ≡ suc j) × (free_in ps ≡ Some j)
-  after_taken ps i None e f = absurd (none_some _ i refl f)
-  after_taken ps i (Some j) e f = (j, some_same _ _ _ f refl, e)
+  after_taken ps i None e f = absurd (none-some i f)
+  after_taken ps i (Some j) e f = (j, same_Some _ _ (sym f), e)
 
   added_this : (ps : List (Option Via)) (i : ℕ) → free_in ps ≡ Some i → via_in ps o d ≡ None → via_in (set ps i new) o d ≡ Some t
-  added_this [] i f e = absurd (none_some _ i refl f)
-  added_this (None ∷ ps) i f e = let at = some_same _ _ _ f refl in rw (at, its)
+  added_this [] i f e = absurd (none-some i f)
+  added_this (None ∷ ps) i f e = let at = same_Some _ _ (sym f) in rw (at, its)
   added_this (Some v ∷ ps) i f e =
       let next = after_taken ps i _ refl f in
       elim (cases_Bool (matches o d (Some v))) [
-        | inl m ↦ absurd (none_some _ v.table e (rw m))
+        | inl m ↦ absurd (none-some v.table (sym e ∙ (rw m)))
         | inr m ↦ rw (next.1, m) (added_this ps next.0 next.2 (rw m at e))
       ]
 
   added_others : (a b : ℕ) → ((a ≡ o) × (b ≡ d) → ⊥) → (ps : List (Option Via)) (i : ℕ) → free_in ps ≡ Some i → via_in (set ps i new) a b ≡ via_in ps a b
   added_others a b ne [] i f = refl
-  added_others a b ne (None ∷ ps) i f = let at = some_same _ _ _ f refl in rw (at, other o d a b new ne its)
+  added_others a b ne (None ∷ ps) i f = let at = same_Some _ _ (sym f) in rw (at, other o d a b new ne its)
   added_others a b ne (Some v ∷ ps) i f =
       let next = after_taken ps i _ refl f in
       rw next.1 (ap (λ x. cond (matches a b (Some v)) (Some v.table) x) (added_others a b ne ps next.0 next.2))

@@ -1,18 +1,19 @@
-ghost use Rattle.std.specs.Prelude.{◌≡◌, ◌≤◌, Some, None};
+ghost use Rattle.std.specs.Prelude.{◌≡◌, ◌≤◌, cond, Some, None};
 ghost use Rattle.detour.specs.Vias.{no_vias, add_via, remove_via, told, after};
-ghost use Rattle.detour.specs.Detours.{coded, carried, detour_first, detour_way, way_under, with_vias};
+ghost use Rattle.detour.specs.Detours.{code, fits, carried, detour_first, detour_way, way_under, with_vias};
 ghost use Rattle.detour.specs.Promises.{ViaSet, Changed};
 
 use crate::refusal::Refusal;
-use crate::vias::{Via, Vias, find_free, find_via, free_pair};
+use crate::vias::{Via, Vias};
 use map::side::Side;
 use ways::finder::WayFinder;
 
 /// The largest note of the one below that a code can hold.
 const MOST: u32 = 16_711_934;
 
-/// Stands for a code that was not formed: at this note there is no way.
-const NO_CODE: u32 = 4_294_967_295;
+/// Stands for a code that was not formed: at this note there is no way. A number, since every
+/// way-finder's note is one.
+const NO_CODE: u32 = u32::MAX;
 
 /// A way-finder over another: the trays of a pair that has a via go by way of it, and all others
 /// as below.
@@ -29,7 +30,7 @@ impl<W> Detour<W> {
     {
         Detour {
             below,
-            vias: Vias { places: [None; 32] },
+            vias: Vias::none(),
         }
     }
 
@@ -42,12 +43,10 @@ impl<W> Detour<W> {
         if origin == destination || origin == table || destination == table {
             return Err(Refusal::NotThreeTables);
         }
-        if find_via(&self.vias.places, origin, destination).is_some() {
+        if self.vias.find(origin, destination).is_some() {
             return Err(Refusal::HasVia);
         }
-        let Some(place) = find_free(&self.vias.places) else {
-            return Err(Refusal::NoPlace);
-        };
+        let place = self.vias.free_place().ok_or(Refusal::NoPlace)?;
         self.vias.places[place] = Some(Via {
             origin,
             destination,
@@ -62,23 +61,23 @@ impl<W> Detour<W> {
         ensures later { self.new ≡ with_vias self.old (after self.old.vias (remove_via self.old.vias origin destination)) }
         ensures only { Changed result (ViaSet origin destination None) self.old.vias self.new.vias }
     {
-        if find_via(&self.vias.places, origin, destination).is_none() {
+        if self.vias.find(origin, destination).is_none() {
             return Err(Refusal::NoVia);
         }
-        free_pair(&mut self.vias.places, origin, destination);
+        self.vias.remove(origin, destination);
         Ok(())
     }
 }
 
 /// The code of a note of the one below with h, where one is formed.
-fn code(note: u32, h: u32) -> u32
+fn code(note: u32, h: u32) -> Option<u32>
     requires { h ≤ 256 }
-    ensures { result ≡ coded note h }
+    ensures { result ≡ cond (fits note) (Some (code note h)) None }
 {
     if note <= MOST {
-        257 * note + h
+        Some(257 * note + h)
     } else {
-        NO_CODE
+        None
     }
 }
 
@@ -87,16 +86,8 @@ fn carry(below: Option<(Side, u32)>, h: u32) -> Option<(Side, u32)>
     requires { h ≤ 256 }
     ensures { result ≡ carried h below }
 {
-    match below {
-        None => None,
-        Some((side, note)) => {
-            if note <= MOST {
-                Some((side, 257 * note + h))
-            } else {
-                None
-            }
-        }
-    }
+    let (side, note) = below?;
+    Some((side, code(note, h)?))
 }
 
 impl<W: WayFinder> WayFinder for Detour<W> {
@@ -105,10 +96,11 @@ impl<W: WayFinder> WayFinder for Detour<W> {
     ghost way = { λ w t d n. detour_way (W.WayFinder.first w.below) (W.WayFinder.way w.below) t d n };
 
     fn first_note(&self, origin: u8, destination: u8) -> u32 {
-        match find_via(&self.vias.places, origin, destination) {
-            None => code(self.below.first_note(origin, destination), 0),
-            Some(via) => code(self.below.first_note(origin, via), u32::from(via) + 1),
-        }
+        let (to, h) = match self.vias.find(origin, destination) {
+            None => (destination, 0),
+            Some(via) => (via, u32::from(via) + 1),
+        };
+        code(self.below.first_note(origin, to), h).unwrap_or(NO_CODE)
     }
 
     fn way(&self, table: u8, destination: u8, note: u32) -> Option<(Side, u32)> {

@@ -1,24 +1,19 @@
 ghost use Rattle.std.specs.Prelude.{◌≡◌};
 ghost use Rattle.detour.specs.Vias.{refusal_number};
 
-/// Why a via is not added or removed.
+/// Why a via is not added or removed, and its number.
 #[derive(Clone, Copy, PartialEq, Eq, Debug)]
 pub enum Refusal {
-    NotThreeTables,
-    HasVia,
-    NoPlace,
-    NoVia,
+    NotThreeTables = 5,
+    HasVia = 6,
+    NoPlace = 7,
+    NoVia = 8,
 }
 
 impl Refusal {
     pub fn number(self) -> u8
         ensures { result ≡ refusal_number self }
     {
-        match self {
-            Refusal::NotThreeTables => 5,
-            Refusal::HasVia => 6,
-            Refusal::NoPlace => 7,
-            Refusal::NoVia => 8,
-        }
+        self as u8
     }
 }

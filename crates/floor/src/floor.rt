@@ -1,5 +1,5 @@
 ghost use Rattle.std.specs.Prelude.{◌≡◌, ◌<◌, IfOk};
-ghost use Rattle.trays.specs.Outcomes.{more, next, ask, enter_outcome, enter_later, advance_outcome, advance_later, look_outcome, counts_outcome};
+ghost use Rattle.trays.specs.Outcomes.{next, ask, enter_outcome, enter_later, advance_outcome, advance_later, look_outcome, counts_outcome};
 ghost use Rattle.trays.specs.Lefts.{walk, left_outcome, LeftTells};
 ghost use Rattle.floor.specs.Floors.{site_in, with_trays, empty_floor, entered_fields, moved_fields, counts_fields};
 
@@ -44,26 +44,6 @@ pub struct Counts {
 /// The most segments that a walk counts: a floor of 16 by 16 has no more.
 const MOST_SEGMENTS: u16 = 960;
 
-fn one_advance_more(advances: u16) -> u16
-    ensures { result ≡ more 65535 advances }
-{
-    if advances < u16::MAX {
-        advances + 1
-    } else {
-        advances
-    }
-}
-
-fn one_tray_more(delivered: u32) -> u32
-    ensures { result ≡ more 4294967295 delivered }
-{
-    if delivered < u32::MAX {
-        delivered + 1
-    } else {
-        delivered
-    }
-}
-
 impl<W: WayFinder> Floor<W> {
     /// An empty floor on the map and the way-finder, whether they passed the check or not.
     pub fn open(map: Map, finder: W) -> Floor<W>
@@ -84,13 +64,14 @@ impl<W: WayFinder> Floor<W> {
         if !(self.map.is_stop(origin) && self.map.is_stop(destination) && origin != destination) {
             return Err(Refusal::NotTwoStops);
         }
-        if self.trays.entered >= u32::MAX {
-            return Err(Refusal::NumbersUsedUp);
-        }
+        let tray = self
+            .trays
+            .entered
+            .checked_add(1)
+            .ok_or(Refusal::NumbersUsedUp)?;
         let first = self.finder.first_note(origin, destination);
         let (segment, note) = self.ask(NO_SEGMENT, origin, destination, first)?;
-        let tray = self.trays.entered + 1;
-        let _ = self.trays.records[segment as usize].replace(Tray {
+        self.trays.records[segment as usize] = Some(Tray {
             number: tray,
             destination,
             note,
@@ -106,16 +87,12 @@ impl<W: WayFinder> Floor<W> {
         ensures outcome { moved_fields result ≡ advance_outcome (site_in W.WayFinder self.old) self.old.trays segment }
         ensures later { self.new ≡ with_trays self.old (advance_later (site_in W.WayFinder self.old) self.old.trays segment) }
     {
-        let Some(head) = self.map.head(segment) else {
-            return Err(Refusal::NoSegment);
-        };
-        let Some(tray) = self.trays.records[segment as usize] else {
-            return Err(Refusal::NoTray);
-        };
-        let advances = one_advance_more(tray.advances);
+        let head = self.map.head(segment).ok_or(Refusal::NoSegment)?;
+        let tray = self.trays.records[segment as usize].ok_or(Refusal::NoTray)?;
+        let advances = tray.advances.saturating_add(1);
         if head == tray.destination {
-            let _ = self.trays.records[segment as usize].take();
-            self.trays.delivered = one_tray_more(self.trays.delivered);
+            self.trays.records[segment as usize] = None;
+            self.trays.delivered = self.trays.delivered.saturating_add(1);
             return Ok(Moved {
                 tray: tray.number,
                 advances,
@@ -123,13 +100,12 @@ impl<W: WayFinder> Floor<W> {
             });
         }
         let (wanted, note) = self.ask(segment, head, tray.destination, tray.note)?;
-        let _ = self.trays.records[wanted as usize].replace(Tray {
-            number: tray.number,
-            destination: tray.destination,
+        self.trays.records[wanted as usize] = Some(Tray {
             note,
             advances,
+            ..tray
         });
-        let _ = self.trays.records[segment as usize].take();
+        self.trays.records[segment as usize] = None;
         Ok(Moved {
             tray: tray.number,
             advances,
@@ -148,6 +124,7 @@ impl<W: WayFinder> Floor<W> {
     }
 
     /// How many segments are on the remaining route of the tray on the segment, its own included.
+    #[tactic(auto, using(trays::proofs::Walks::left_tells))]
     pub fn left(&self, segment: u16) -> Result<u16, Refusal>
         ensures is { result ≡ left_outcome (site_in W.WayFinder self.now) self.now.trays segment }
         ensures tells { LeftTells (site_in W.WayFinder self.now) self.now.trays segment }
@@ -171,9 +148,8 @@ impl<W: WayFinder> Floor<W> {
         ensures small { IfOk result (λ a. a.0 < 1024) }
         ensures is { result ≡ next (site_in W.WayFinder self.now) held table destination note }
     {
-        let Some((side, carried)) = self.finder.way(table, destination, note) else {
-            return Err(Refusal::NoWay(held, NO_SEGMENT));
-        };
+        let way = self.finder.way(table, destination, note);
+        let (side, carried) = way.ok_or(Refusal::NoWay(held, NO_SEGMENT))?;
         let wanted = side.segment_from(table);
         if self.map.head(wanted).is_none() {
             return Err(Refusal::WantedMissing(held, wanted));
@@ -200,21 +176,18 @@ impl<W: WayFinder> Floor<W> {
     fn count_on(&self, segment: u16, destination: u8, note: u32) -> Result<u16, Refusal>
         ensures { result ≡ walk (site_in W.WayFinder self.now) destination 959 1 segment note }
     {
-        let mut at = segment;
-        let mut carried = note;
-        let mut count = 1;
-        loop {
-            let Some(head) = self.map.head(at) else {
-                return Err(Refusal::NoSegment);
-            };
+        let (mut at, mut carried) = (segment, note);
+        for count in 1..=MOST_SEGMENTS {
+            let head = self.map.head(at).ok_or(Refusal::NoSegment)?;
             if head == destination {
                 return Ok(count);
             }
-            if count >= MOST_SEGMENTS {
-                return Err(Refusal::TooLong);
+            // no way is asked after the last
+            if count == MOST_SEGMENTS {
+                break;
             }
             (at, carried) = self.next(at, head, destination, carried)?;
-            count += 1;
         }
+        Err(Refusal::TooLong)
     }
 }

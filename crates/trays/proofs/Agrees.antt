@@ -1,5 +1,6 @@
 -- The records agree with the history.
 use Rattle.std.proofs.Common.{◌≡◌, ℕ, ◌≤◌, min, Bool, true, false, List, ◌∷◌, length, get_or, drop, is_some, Some, None, Option, sym, refl, ap, ◌∙◌}
+use Rattle.std.proofs.lemmas.Option.{none-some, same_Some}
 use Rattle.std.proofs.lemmas.Bool.{both_ways}
 use Rattle.trays.specs.Logs.{Log}
 use Rattle.trays.specs.declared.tray.Tray.{Tray}
@@ -8,7 +9,6 @@ use Rattle.trays.specs.declared.event.Event.{Event}
 use Rattle.trays.specs.Sites.{Site, two_stops}
 use Rattle.trays.proofs.Ahead.{Ahead}
 use Rattle.trays.specs.Words.{let_in, pair_of, advances_of, left_from, segment_of, is_delivered, number}
-use Rattle.trays.proofs.Lists.{none_some, some_same}
 
 module _ (s : Site) (rises : ℕ → ℕ → Bool) (routes : ℕ → ℕ → List ℕ) where
   -- tray n, from o to d, stands on the segment last answered, after k advances
@@ -56,7 +56,7 @@ module _ (s : Site) (rises : ℕ → ℕ → Bool) (routes : ℕ → ℕ → Lis
   pub tale_fresh : (xs : List (Option Tray)) (n : ℕ) (pair : Option (ℕ × ℕ)) (left last : Option ℕ) (k : ℕ) → pair ≡ None → Tale xs n pair left last k → (left ≡ None) × (k ≡ 0)
   tale_fresh xs n None None last k e x = (refl, x)
   tale_fresh xs n None (Some p) last k e x = absurd x
-  tale_fresh xs n (Some a) left last k e x = absurd (none_some _ a e refl)
+  tale_fresh xs n (Some a) left last k e x = absurd (none-some a (sym e))
 
   -- the tray t on p, with what is left to it
   pub record Rider (t : Tray) (p : ℕ) (pair : Option (ℕ × ℕ)) (k : ℕ) : Type 0 where
@@ -80,10 +80,10 @@ module _ (s : Site) (rises : ℕ → ℕ → Bool) (routes : ℕ → ℕ → Lis
 
   rider_of : (xs : List (Option Tray)) (t : Tray) (p : ℕ) (pair : Option (ℕ × ℕ)) (left last : Option ℕ) (k : ℕ) → Tale xs t.number pair left last k → is_some pair ≡ true → left ≡ None → last ≡ Some p → get_or xs p None ≡ Some t → Rider t p pair k
   rider_of xs t p None left last k x i l e g = absurd (both_ways false refl i)
-  rider_of xs t p (Some a) (Some c) last k x i l e g = absurd (none_some _ c l refl)
+  rider_of xs t p (Some a) (Some c) last k x i l e g = absurd (none-some c (sym l))
   rider_of xs t p (Some a) None last k x i l e g =
-      let same = some_same _ _ _ e x.is in
-      let tray = some_same _ _ _ g (ap (λ y. get_or xs y None) same ∙ x.there) in
+      let same = same_Some _ _ (sym e ∙ x.is) in
+      let tray = same_Some _ _ (sym g ∙ (ap (λ y. get_or xs y None) same ∙ x.there)) in
       rider_at xs t _ p x.segment a.0 k x.rest tray same x.left x.ahead x.counts
 
   pub rider : (b : Trays) (h : Log Event) → Agrees b h → (p : ℕ) (t : Tray) → get_or b.records p None ≡ Some t → Rider t p (pair_of t.number h) (advances_of t.number h)
@@ -93,4 +93,4 @@ module _ (s : Site) (rises : ℕ → ℕ → Bool) (routes : ℕ → ℕ → Lis
 
   -- no two records are of one tray
   pub apart : (b : Trays) (h : Log Event) → Agrees b h → (p q : ℕ) (t u : Tray) → get_or b.records p None ≡ Some t → get_or b.records q None ≡ Some u → t.number ≡ u.number → p ≡ q
-  apart b h ag p q t u e f same = some_same _ _ _ (ag.held p t e).last (ap (λ n. segment_of n h) same ∙ (ag.held q u f).last)
+  apart b h ag p q t u e f same = same_Some _ _ (sym (ag.held p t e).last ∙ (ap (λ n. segment_of n h) same ∙ (ag.held q u f).last))

@@ -1,5 +1,6 @@
 -- What is promised is kept.
 use Rattle.std.proofs.Common.{◌≡◌, ℕ, zero, suc, ◌+◌, ◌-◌, ◌<◌, Bool, true, false, not, ◌&&◌, List, ◌∷◌, length, get_or, replicate, is_some, Some, None, Ok, Err, Option, Result, sym, refl, ap, ◌∙◌, ap₂, inl, inr, arith}
+use Rattle.std.proofs.lemmas.Option.{none-some, same_Some}
 use lib.ListN.{length-replicate}
 use Rattle.std.proofs.lemmas.Bool.{both_ways, cases_Bool}
 use Rattle.trays.specs.Logs.{Log, joined, each}
@@ -17,7 +18,7 @@ use Rattle.trays.specs.Outcomes.Move.{refuses, leaves, goes}
 use Rattle.trays.proofs.Ahead.{Routed, Within, Small, Strict}
 use Rattle.trays.specs.Words.{let_in, pair_of, advances_of, left_from, segment_of, is_delivered, on_floor, one, number, remaining, to_go, accepted}
 use Rattle.trays.specs.Promises.{CanAdvance, Alone, Arrived, Counted, Kept, Empty, Empties, Promised}
-use Rattle.trays.proofs.Lists.{none_some, some_same, drop_long}
+use Rattle.trays.proofs.Lists.{drop_long}
 use Rattle.trays.proofs.Ways.{leads}
 use Rattle.trays.proofs.Walks.{left_tells, ahead_onward}
 use Rattle.trays.proofs.Sums.{sum_either, sum_none, sum_holds, sum_some}
@@ -66,9 +67,9 @@ module _ (s : Site) (rises : ℕ → ℕ → Bool) (routes : ℕ → ℕ → Lis
         in_all = refl;
         few = omega arith;
         out = refl;
-        pairs = λ n o d e. absurd (none_some _ (o, d) refl e);
+        pairs = λ n o d e. absurd (none-some (o, d) e);
         tale = λ n. refl;
-        held = λ p t e. absurd (none_some _ t (bare 1024 p) e);
+        held = λ p t e. absurd (none-some t (sym (bare 1024 p) ∙ e));
       }
 
   -- a tray on the floor, with its record
@@ -85,11 +86,11 @@ module _ (s : Site) (rises : ℕ → ℕ → Bool) (routes : ℕ → ℕ → Lis
   riding_of xs n (Some a) (Some p) last k x e = absurd (both_ways false refl e)
 
   arrived_of : (xs : List (Option Tray)) (n p : ℕ) (pair : Option (ℕ × ℕ)) (left last : Option ℕ) (k : ℕ) → Tale s rises routes xs n pair left last k → left ≡ Some p → (o d : ℕ) × (pair ≡ Some (o, d)) × (s.head p ≡ Some d) × (k ≡ length (routes o d))
-  arrived_of xs n p None None last k x e = absurd (none_some _ p refl e)
+  arrived_of xs n p None None last k x e = absurd (none-some p e)
   arrived_of xs n p None (Some c) last k x e = absurd x
-  arrived_of xs n p (Some a) None last k x e = absurd (none_some _ p refl e)
+  arrived_of xs n p (Some a) None last k x e = absurd (none-some p e)
   arrived_of xs n p (Some a) (Some c) last k x e =
-      let same = some_same _ _ _ refl e in
+      let same = same_Some _ _ e in
       (a.0, a.1, refl, ap s.head (sym same) ∙ x.0, x.1)
 
   module _ (b : Trays) (h : Log Event) (ag : Agrees s rises routes b h) where
@@ -99,8 +100,8 @@ module _ (s : Site) (rises : ℕ → ℕ → Bool) (routes : ℕ → ℕ → Lis
     no_other : (n m : ℕ) (p : ℕ) (t : Tray) → get_or b.records p None ≡ Some t → t.number ≡ n → on_floor m h ≡ true → segment_of m h ≡ Some p → m ≡ n
     no_other n m p t g i e l =
         let r = riding m e in
-        let same = some_same _ _ _ l r.rides.is in
-        let tray = some_same _ _ _ g (ap (λ y. get_or b.records y None) same ∙ r.rides.there) in
+        let same = same_Some _ _ (sym l ∙ r.rides.is) in
+        let tray = same_Some _ _ (sym g ∙ (ap (λ y. get_or b.records y None) same ∙ r.rides.there)) in
         sym (ap (λ v. v.number) tray) ∙ i
 
     module _ (most : ℕ) (within : Within s routes most) where

@@ -1,15 +1,13 @@
 -- Lists of records and of segments.
 use Rattle.std.proofs.Common.{◌≡◌, ℕ, zero, suc, ◌+◌, ◌<◌, List, [], ◌∷◌, length, get_or, drop, set, Some, None, Option, refl, ap, arith, length-drop}
+use Rattle.std.proofs.lemmas.Option.{none-some}
 
 module _ {A : Type 0} where
   pub none_some : (x : Option A) (a : A) → x ≡ None → x ≡ Some a → ⊥
-  none_some x a p q = let z : ◌≡◌ {A = ℕ} 0 1 = cc in omega arith
-
-  pub some_same : (x : Option A) (a c : A) → x ≡ Some a → x ≡ Some c → a ≡ c
-  some_same x a c p q = cc
+  none_some x a p q = cc
 
   pub nil_cons : (x : A) (xs l : List A) → l ≡ [] → l ≡ x ∷ xs → ⊥
-  nil_cons x xs l p q = let z : ◌≡◌ {A = ℕ} 0 1 = cc in omega arith
+  nil_cons x xs l p q = cc
 
   pub set_none : (xs : List (Option A)) (i : ℕ) → get_or (set xs i None) i None ≡ None
   set_none [] i = refl
@@ -17,7 +15,7 @@ module _ {A : Type 0} where
   set_none (x ∷ xs) (suc i) = set_none xs i
 
   pub some_in : (xs : List (Option A)) (i : ℕ) (a : A) → get_or xs i None ≡ Some a → i < length xs
-  some_in [] i a e = absurd (none_some None a refl e)
+  some_in [] i a e = absurd (none-some a e)
   some_in (x ∷ xs) zero a e = omega arith
   some_in (x ∷ xs) (suc i) a e = let less = some_in xs i a e in omega arith
 

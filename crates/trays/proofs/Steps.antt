@@ -1,5 +1,6 @@
 -- Each call leaves the records in agreement with the history.
 use Rattle.std.proofs.Common.{◌≡◌, ℕ, suc, ◌+◌, ◌<◌, ◌≤◌, min, Bool, true, false, eqb, List, [], ◌∷◌, length, get_or, set, is_some, Some, None, Ok, Err, Option, Result, sym, refl, ap, ◌∙◌, inl, inr, arith, length-set, get_or-set_other, get_or-set_same}
+use Rattle.std.proofs.lemmas.Option.{none-some, same_Some}
 use Rattle.std.proofs.lemmas.Bool.{cases_eq, eq-eqb, ne_eqb, lt-ltb, le-ltb, cases_lt}
 use Rattle.trays.specs.Logs.{Log}
 use Rattle.trays.specs.Logs.Log.{◌then◌}
@@ -16,7 +17,7 @@ use Rattle.trays.specs.declared.event.Event.TheVariants.{Refused, Entered, Advan
 use Rattle.trays.specs.Outcomes.Move.{refuses, leaves, goes}
 use Rattle.trays.proofs.Ahead.{Route, Routed}
 use Rattle.trays.specs.Words.{let_in, pair_of, advances_of, left_from, segment_of, is_delivered, one, number}
-use Rattle.trays.proofs.Lists.{none_some, some_same, set_none, drop_tail, drop_long}
+use Rattle.trays.proofs.Lists.{set_none, drop_tail, drop_long}
 use Rattle.trays.proofs.Sums.{sum_same, sum_fall, sum_small}
 use Rattle.trays.proofs.Says.{fresh, range}
 use Rattle.trays.proofs.Views.{Asked, Enters, of_entry, Moves, of_move}
@@ -59,7 +60,7 @@ module _ (s : Site) (rises : ℕ → ℕ → Bool) (routes : ℕ → ℕ → Lis
       within = let less = small q _ asks.leads in let long = ag.long in omega arith
 
       others : (p : ℕ) (t : Tray) → get_or b.records p None ≡ Some t → get_or put p None ≡ Some t
-      others p t e = get_or-set_other b.records q p (Some fresh_tray) None (λ i. none_some _ t asks.vacant (ap (λ y. get_or b.records y None) (sym i) ∙ e)) ∙ e
+      others p t e = get_or-set_other b.records q p (Some fresh_tray) None (λ i. none-some t (sym asks.vacant ∙ (ap (λ y. get_or b.records y None) (sym i) ∙ e))) ∙ e
 
       new_tale : (n : ℕ) → n ≡ new → Tale s rises routes put n (Some (o, d)) (left_from n h) (Some q) (advances_of n h)
       new_tale n e =
@@ -87,7 +88,7 @@ module _ (s : Site) (rises : ℕ → ℕ → Bool) (routes : ℕ → ℕ → Lis
 
       new_held : (p : ℕ) (t : Tray) → p ≡ q → get_or put p None ≡ Some t → Held s rises routes (h then Entered o d new q) t.number p
       new_held p t i e =
-          let same = some_same _ _ _ (ap (λ y. get_or put y None) (sym i) ∙ e) (get_or-set_same b.records q (Some fresh_tray) None within) in
+          let same = same_Some _ _ (sym (ap (λ y. get_or put y None) (sym i) ∙ e) ∙ (get_or-set_same b.records q (Some fresh_tray) None within)) in
           let none = tale_fresh s rises routes b.records new _ _ _ _ (fresh new h (omega arith)) (ag.tale new) in
           rw same
           (record {
@@ -118,7 +119,7 @@ module _ (s : Site) (rises : ℕ → ℕ → Bool) (routes : ℕ → ℕ → Lis
       enter_pairs : (n a c : ℕ) → pair_of n (h then Entered o d new q) ≡ Some (a, c) → two_stops s a c ≡ true
       enter_pairs n a c e =
           elim (cases_eq n (suc (let_in h))) [
-            | inl i ↦ let same = some_same _ _ _ (rw (eq-eqb n (suc (let_in h)) i) at e) refl in sym (ap (λ (x : ℕ × ℕ). two_stops s x.0 x.1) (sym same)) ∙ two
+            | inl i ↦ let same = same_Some _ _ (sym (rw (eq-eqb n (suc (let_in h)) i) at e)) in sym (ap (λ (x : ℕ × ℕ). two_stops s x.0 x.1) (sym same)) ∙ two
             | inr i ↦ ag.pairs n a c (rw (ne_eqb n (suc (let_in h)) i) at e)
           ]
 
@@ -157,13 +158,13 @@ module _ (s : Site) (rises : ℕ → ℕ → Bool) (routes : ℕ → ℕ → Lis
           elim (cases_eq n t.number) [
             | inl e ↦ rw (eq-eqb n t.number e) (leave_arrives n e)
             | inr e ↦ rw (ne_eqb n t.number e)
-                (still off n (λ r u g j. get_or-set_other b.records p r None None (λ i. e (sym j ∙ ap (λ v. v.number) (some_same _ _ _ g (ap (λ y. get_or b.records y None) i ∙ here)))) ∙ g))
+                (still off n (λ r u g j. get_or-set_other b.records p r None None (λ i. e (sym j ∙ ap (λ v. v.number) (same_Some _ _ (sym g ∙ (ap (λ y. get_or b.records y None) i ∙ here))))) ∙ g))
           ]
 
       leave_held : (r : ℕ) (u : Tray) → get_or off r None ≡ Some u → Held s rises routes (h then Advanced p t.number k 65535) u.number r
       leave_held r u e =
           elim (cases_eq r p) [
-            | inl i ↦ absurd (none_some _ u (ap (λ y. get_or off y None) i ∙ set_none b.records p) e)
+            | inl i ↦ absurd (none-some u (sym (ap (λ y. get_or off y None) i ∙ set_none b.records p) ∙ e))
             | inr i ↦
                 let old : get_or b.records r None ≡ Some u = sym (get_or-set_other b.records p r None None i) ∙ e in
                 let x = ag.held r u old in
@@ -209,7 +210,7 @@ module _ (s : Site) (rises : ℕ → ℕ → Bool) (routes : ℕ → ℕ → Lis
       is_not = let less = small q _ asks.leads in ne_eqb q 65535 (λ e. omega arith)
 
       differ : q ≡ p → ⊥
-      differ e = none_some _ t asks.vacant (ap (λ y. get_or b.records y None) e ∙ here)
+      differ e = none-some t (sym asks.vacant ∙ (ap (λ y. get_or b.records y None) e ∙ here))
 
       go_within : q < length b.records
       go_within = let less = small q _ asks.leads in let long = ag.long in omega arith
@@ -245,12 +246,12 @@ module _ (s : Site) (rises : ℕ → ℕ → Bool) (routes : ℕ → ℕ → Lis
           elim (cases_eq n t.number) [
             | inl e ↦ rw (is_not, eq-eqb n t.number e) (go_rides n e)
             | inr e ↦ rw (is_not, ne_eqb n t.number e)
-                (still on n (λ r v g j. elsewhere r (λ i. e (sym j ∙ ap (λ w. w.number) (some_same _ _ _ g (ap (λ y. get_or b.records y None) i ∙ here)))) (λ i. none_some _ v (ap (λ y. get_or b.records y None) i ∙ asks.vacant) g) ∙ g))
+                (still on n (λ r v g j. elsewhere r (λ i. e (sym j ∙ ap (λ w. w.number) (same_Some _ _ (sym g ∙ (ap (λ y. get_or b.records y None) i ∙ here))))) (λ i. none-some v (sym (ap (λ y. get_or b.records y None) i ∙ asks.vacant) ∙ g)) ∙ g))
           ]
 
       go_held_new : (r : ℕ) (v : Tray) → r ≡ q → get_or on r None ≡ Some v → Held s rises routes (h then Advanced p t.number k q) v.number r
       go_held_new r v i e =
-          let same = some_same _ _ _ (ap (λ y. get_or on y None) (sym i) ∙ e) stands in
+          let same = same_Some _ _ (sym (ap (λ y. get_or on y None) (sym i) ∙ e) ∙ stands) in
           rw same
           (record {
             its_let_in = its'.its_let_in;
@@ -271,7 +272,7 @@ module _ (s : Site) (rises : ℕ → ℕ → Bool) (routes : ℕ → ℕ → Lis
       go_held : (r : ℕ) (v : Tray) → get_or on r None ≡ Some v → Held s rises routes (h then Advanced p t.number k q) v.number r
       go_held r v e =
           elim (cases_eq r p) [
-            | inl i ↦ absurd (none_some _ v (ap (λ y. get_or on y None) i ∙ set_none (set b.records q (Some (moved t m))) p) e)
+            | inl i ↦ absurd (none-some v (sym (ap (λ y. get_or on y None) i ∙ set_none (set b.records q (Some (moved t m))) p) ∙ e))
             | inr i ↦ elim (cases_eq r q) [
               | inl j ↦ go_held_new r v j e
               | inr j ↦ go_held_old r v i (sym (elsewhere r i j) ∙ e)

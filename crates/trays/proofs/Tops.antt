@@ -1,5 +1,6 @@
 -- Some tray can go on.
 use Rattle.std.proofs.Common.{◌≡◌, ℕ, zero, suc, ◌<◌, Bool, true, false, ◌⊎◌, List, [], ◌∷◌, length, get_or, Some, None, Option, sym, refl, ap, ◌∙◌, inl, inr, arith}
+use Rattle.std.proofs.lemmas.Option.{none-some}
 use Rattle.std.proofs.lemmas.Bool.{both_ways, cases_Bool, cases_lt, eq-eqb, ne_eqb}
 use Rattle.trays.specs.Logs.{Log}
 use Rattle.trays.specs.declared.tray.Tray.{Tray}
@@ -11,7 +12,7 @@ use Rattle.trays.specs.Runs.{event}
 use Rattle.trays.proofs.Ahead.{Ahead, Strict}
 use Rattle.trays.specs.Words.{accepted}
 use Rattle.trays.specs.Promises.{CanAdvance}
-use Rattle.trays.proofs.Lists.{none_some, some_in}
+use Rattle.trays.proofs.Lists.{some_in}
 use Rattle.trays.proofs.Ways.{leads}
 use Rattle.trays.proofs.Agrees.{Agrees, rider}
 
@@ -53,8 +54,8 @@ module _ (rises : ℕ → ℕ → Bool) (strict : Strict rises) (xs : List (Opti
 
   extend : (k : ℕ) (x : Option Tray) → get_or xs k None ≡ x → Bare k ⊎ Top k → Bare (suc k) ⊎ Top (suc k)
   extend k None e (inl none) = inl (λ r l. elim (last_or r k l) [ inl x ↦ none r x | inr x ↦ ap (λ y. get_or xs y None) x ∙ e ])
-  extend k None e (inr t) = inr (stays k t (λ u g. absurd (none_some _ u e g)))
-  extend k (Some u) e (inl none) = inr (takes k u e (λ r t l g. absurd (none_some _ t (none r l) g)))
+  extend k None e (inr t) = inr (stays k t (λ u g. absurd (none-some u (sym e ∙ g))))
+  extend k (Some u) e (inl none) = inr (takes k u e (λ r t l g. absurd (none-some t (sym (none r l) ∙ g))))
   extend k (Some u) e (inr t) =
       elim (cases_Bool (rises t.at k)) [
         | inl up ↦ inr (takes k u e (λ r v l g. above t.at k r up (t.highest r v l g)))
@@ -84,6 +85,6 @@ module _ (s : Site) (rises : ℕ → ℕ → Bool) (strict : Strict rises) (rout
   pub can_advance : (p : ℕ) (t : Tray) → get_or b.records p None ≡ Some t → CanAdvance s b
   can_advance p t e =
       elim (top_below rises strict b.records (length b.records)) [
-        | inl none ↦ absurd (none_some _ t (none p (some_in b.records p t e)) e)
+        | inl none ↦ absurd (none-some t (sym (none p (some_in b.records p t e)) ∙ e))
         | inr top ↦ top_moves top
       ]

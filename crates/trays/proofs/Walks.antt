@@ -15,7 +15,7 @@ ok_same : {A : Type 0} (r : Result A Refusal) (x y : A) → r ≡ Ok x → r ≡
 ok_same r x y p q = cc
 
 ok_not_err : {A : Type 0} (r : Result A Refusal) (x : A) (e : Refusal) → r ≡ Ok x → r ≡ Err e → ⊥
-ok_not_err r x e p q = let z : ◌≡◌ {A = ℕ} 0 1 = cc in omega arith
+ok_not_err r x e p q = cc
 
 module _ (s : Site) where
   -- what a segment to go on to has shown

@@ -3,7 +3,8 @@ ghost use Rattle.trays.specs.Outcomes.{no_trays};
 
 use crate::tray::Tray;
 
-/// One record for each segment number, and how many trays were let in and delivered.
+/// One record for each segment number, and how many trays were let in and delivered. The records
+/// stand in an array, since the library has no heap.
 #[derive(Clone, Copy)]
 pub struct Trays {
     pub records: [Option<Tray>; 1024],

@@ -21,3 +21,6 @@ module _ (parent : ℕ → Option ℕ) (t d i x : ℕ) (c : Climbed parent t d i
 
   pub climbed_all : 255 ≤ i → None ≡ child_on parent 255 t d
   climbed_all l = sym (child_none parent (255 - i) t x (omega arith)) ∙ c
+
+-- each step of the loop
+pub ruleset climbs = (climbed_found, climbed_top, climbed_more, climbed_all)

@@ -1,15 +1,19 @@
--- A row that is filled place by place.
-use Rattle.std.proofs.Common.{◌≡◌, ℕ, ◌+◌, ◌<◌, ◌≤◌, List, get_or, set, sym, ◌∙◌, inl, inr, arith, below_more}
-use Rattle.std.proofs.lemmas.Bool.{cases_lt}
-use Rattle.std.proofs.lemmas.List.{length-set, get_or-set_same, get_or-set_other, get_or_past}
-use Rattle.tree.specs.Finders.{Filled}
+-- An array that is made place by place by calls of a closure that stays as it is.
+use Rattle.std.proofs.Common.{◌≡◌, ℕ, zero, suc, ◌+◌, ◌<◌, ◌≤◌, List, get_or, ◌∙◌, subst, inl, inr, arith}
+use Rattle.std.proofs.lemmas.Bool.{cases_eq}
+use Rattle.std.specs.Array.{IsFromFnResult, IsFromFnResultFrom}
+use Rattle.std.specs.Fn.{Called}
+use denote.Param.Members.{Mut}
 
-pub filled_more : {X : Type 0} (f : ℕ → X) (d : X) (xs : List X) (i : ℕ) (v : X) → Filled f d xs i → i < 256 → v ≡ f i → Filled f d (set xs i v) (i + 1)
-filled_more f d xs i v h l e = (
-  length-set xs i v ∙ h.0,
-  below_more (λ k. get_or (set xs i v) k d ≡ f k) i (λ k m. get_or-set_other xs i k v d (omega arith) ∙ h.1 k m) (get_or-set_same xs i v d (omega (arith, h.0)) ∙ e),
-)
+module _ {F X : Type 0} (g : Mut F (ℕ × Unit {0}) X) (f : F) (item : ℕ → X) (call : (i : ℕ) (y : X) (q : F) → Called g f (i, tt) y q → (q ≡ f) × (y ≡ item i)) (ys : List X) where
+  made_from : (i n k : ℕ) (d : X) → IsFromFnResultFrom g f ys i n → i ≤ k → k < i + n → get_or ys k d ≡ item k
+  made_from i zero k d r l h = absurd (omega arith)
+  made_from i (suc n) k d r l h =
+      let e = call i r.1 r.0 r.3 in
+      elim (cases_eq k i) [
+        | inl is ↦ rw is (r.2.1 d ∙ e.1)
+        | inr ne ↦ made_from (i + 1) n k d (subst (λ p. IsFromFnResultFrom g p ys (i + 1) n) e.0 r.4) (omega arith) (omega arith)
+      ]
 
--- past the end as well, where f has the default there
-pub filled_all : {X : Type 0} (f : ℕ → X) (d : X) (xs : List X) → Filled f d xs 256 → ((t : ℕ) → 256 ≤ t → f t ≡ d) → (t : ℕ) → get_or xs t d ≡ f t
-filled_all f d xs h past t = elim (cases_lt t 256) [ inl l ↦ h.1 t l | inr p ↦ get_or_past xs t d (omega (arith, h.0)) ∙ sym (past t p) ]
+  pub made : (n : ℕ) → IsFromFnResult g f ys n → (k : ℕ) → k < n → (d : X) → get_or ys k d ≡ item k
+  made n r k l d = made_from 0 n k d r.each (omega arith) (omega arith)

@@ -1,7 +1,8 @@
 -- A tree that holds what its map has gives the map's ways and keys.
-use Rattle.std.proofs.Common.{◌≡◌, ℕ, List, get_or, None, Option, sym, ap, ◌∙◌}
+use Rattle.std.proofs.Common.{◌≡◌, ℕ, ◌<◌, ◌≤◌, length, get_or, sym, ap, ◌∙◌, inl, inr, arith}
+use Rattle.std.proofs.lemmas.Bool.{cases_lt}
+use Rattle.std.proofs.lemmas.List.{get_or_past}
 use mathlib.Core.Path.{fun_ext}
-use Rattle.map.specs.declared.side.Side.{Side}
 use Rattle.map.specs.Floors.{beside}
 use Rattle.map.specs.Layouts.{Layout}
 use Rattle.links.specs.Links.{near}
@@ -9,24 +10,53 @@ use Rattle.links.specs.Trees.{root_of, depth, up_side, over, parent_side, parent
 use Rattle.links.specs.Ways.{way_over, tree_way, key_over, tree_key}
 use Rattle.links.proofs.Nearby.{Sized}
 use Rattle.links.proofs.Grown.{no_side, no_parent, sides_are, parents_are, keys_large}
+use Rattle.tree.specs.declared.growth.Growth.{Growth}
+use Rattle.tree.specs.declared.growth.Mark.{Mark}
 use Rattle.tree.specs.declared.tree.Tree.{Tree}
-use Rattle.tree.specs.Finders.{Filled, number_at, sides_of, parents_of, Holds, way_by, key_by}
-use Rattle.tree.proofs.Fills.{filled_all}
+use Rattle.tree.specs.declared.upward.Node.{Node}
+use Rattle.tree.specs.Growths.{unmarked, root_in, depth_in}
+use Rattle.tree.specs.Nodes.{alone, node_in}
+use Rattle.tree.specs.Finders.{node_of, sides_of, parents_of, Holds, way_by, key_by}
 
 module _ (m : Layout) (size : Sized m) where
-  module _ (depths : List ℕ) (sides : List (Option Side)) (parents : List (Option ℕ)) (depths_are : (t : ℕ) → number_at depths t ≡ depth m t) where
-    up_same : (t : ℕ) → up_side (near m) (number_at depths) t ≡ parent_side m t
-    up_same t = ap (λ f. up_side (near m) f t) (fun_ext depths_are) ∙ sym (sides_are m size t)
+  module _ (g : Growth) (long : length g.marks ≡ 256) (roots : (t : ℕ) → root_in g t ≡ root_of m t) (depths : (t : ℕ) → depth_in g t ≡ depth m t) where
+    side_same : (t : ℕ) → up_side (near m) (depth_in g) t ≡ parent_side m t
+    side_same t = ap (λ f. up_side (near m) f t) (fun_ext depths) ∙ sym (sides_are m size t)
 
-    pub sides_held : Filled (up_side (near m) (number_at depths)) None sides 256 → (t : ℕ) → get_or sides t None ≡ parent_side m t
-    sides_held h t = filled_all (up_side (near m) (number_at depths)) None sides h (λ x l. up_same x ∙ no_side m size x l) t ∙ up_same t
+    parent_same : (t : ℕ) → over (near m) t (up_side (near m) (depth_in g) t) ≡ parent_of m t
+    parent_same t = ap (over (near m) t) (side_same t) ∙ sym (parents_are m size t)
 
-    over_same : ((t : ℕ) → get_or sides t None ≡ parent_side m t) → (t : ℕ) → over (near m) t (get_or sides t None) ≡ parent_of m t
-    over_same h t = ap (over (near m) t) (h t) ∙ sym (parents_are m size t)
+    module _ (w : Tree) (whole : length w.nodes ≡ 256) (h : (t : ℕ) → t < 256 → node_of w t ≡ node_in m g t) where
+      -- past the end there are no tables
+      past : (t : ℕ) → 256 ≤ t → node_of w t ≡ alone
+      past t l = get_or_past w.nodes t alone (omega arith)
 
-    pub parents_held : Filled (up_side (near m) (number_at depths)) None sides 256 → Filled (λ t. over (near m) t (get_or sides t None)) None parents 256 → (t : ℕ) → get_or parents t None ≡ parent_of m t
-    parents_held h p t =
-        filled_all (λ x. over (near m) x (get_or sides x None)) None parents p (λ x l. over_same (sides_held h) x ∙ no_parent m size x l) t ∙ over_same (sides_held h) t
+      unmarked_past : (t : ℕ) → 256 ≤ t → get_or g.marks t unmarked ≡ unmarked
+      unmarked_past t l = get_or_past g.marks t unmarked (omega arith)
+
+      pub held : Holds m w
+      held = record {
+        roots = λ t.
+            elim (cases_lt t 256) [
+              | inl l ↦ ap (λ (x : Node). x.root) (h t l) ∙ roots t
+              | inr p ↦ ap (λ (x : Node). x.root) (past t p) ∙ sym (ap (λ (x : Mark). x.root) (unmarked_past t p)) ∙ roots t
+            ];
+        depths = λ t.
+            elim (cases_lt t 256) [
+              | inl l ↦ ap (λ (x : Node). x.depth) (h t l) ∙ depths t
+              | inr p ↦ ap (λ (x : Node). x.depth) (past t p) ∙ sym (ap (λ (x : Mark). x.depth) (unmarked_past t p)) ∙ depths t
+            ];
+        sides = λ t.
+            elim (cases_lt t 256) [
+              | inl l ↦ ap (λ (x : Node). x.side) (h t l) ∙ side_same t
+              | inr p ↦ ap (λ (x : Node). x.side) (past t p) ∙ sym (no_side m size t p)
+            ];
+        parents = λ t.
+            elim (cases_lt t 256) [
+              | inl l ↦ ap (λ (x : Node). x.parent) (h t l) ∙ parent_same t
+              | inr p ↦ ap (λ (x : Node). x.parent) (past t p) ∙ sym (no_parent m size t p)
+            ];
+      }
 
   module _ (w : Tree) (h : Holds m w) where
     pub ways_held : (t d : ℕ) → way_by w t d ≡ tree_way m t d

@@ -1,5 +1,5 @@
 -- Spreading from each table in turn that was not reached gives the roots and depths of the map.
-use Rattle.std.proofs.Common.{◌≡◌, ℕ, ◌+◌, ◌<◌, ◌≤◌, true, false, replicate, Some, None, Option, sym, refl, ap, ◌∙◌, subst, inl, inr, arith, below_more}
+use Rattle.std.proofs.Common.{◌≡◌, ℕ, ◌+◌, ◌≤◌, true, false, [], replicate, Some, None, Option, sym, refl, ap, ◌∙◌, subst, inl, inr, arith, below_more}
 use Rattle.std.proofs.lemmas.Bool.{cases_lt, cases_Bool, both_ways}
 use Rattle.std.proofs.lemmas.List.{length-replicate}
 use Rattle.map.specs.declared.side.Side.{Side}
@@ -12,37 +12,31 @@ use Rattle.links.proofs.Chains.{none_some, append, turned, one_depth, one_lowest
 use Rattle.links.proofs.Nearby.{Sized, near_both, present_small}
 use Rattle.links.proofs.Grown.{root_present, root_absent, depth_some, depth_is, depth_none, alone}
 use Rattle.tree.specs.declared.growth.Growth.{Growth}
-use Rattle.tree.specs.Growths.{root_in, depth_in, From, Sound, Kept}
-use Rattle.tree.proofs.Missing.{missing_all, none_at, zero_at}
-
--- the groups of the tables below i are reached
-pub record Swept (m : Layout) (i : ℕ) (g : Growth) : Type 0 where
-  pub sound : Sound m g.count g
-  pub done : (x : ℕ) → x < i → present m x ≡ true → (r : ℕ) × (root_in g x ≡ Some r)
+use Rattle.tree.specs.declared.growth.Mark.{Mark}
+use Rattle.tree.specs.Growths.{unmarked, count, root_in, depth_in, From, Sound, Kept, Swept}
+use Rattle.tree.proofs.Missing.{missing_all, unmarked_at}
 
 abbrev pub bare : Growth
-bare = record { roots = replicate 256 None; depths = replicate 256 0; queue = replicate 256 0; count = 0 }
+bare = record { marks = replicate 256 unmarked; queue = record { items = [] } }
 
 pub swept_none : (m : Layout) → Swept m 0 bare
 swept_none m = record {
   sound = record {
-    roots_long = length-replicate {A = Option ℕ} 256 None;
-    depths_long = length-replicate {A = ℕ} 256 0;
-    queue_long = length-replicate {A = ℕ} 256 0;
+    marks_long = length-replicate {A = Mark} 256 unmarked;
     counted = missing_all 256;
     taken_few = omega arith;
     small = λ i l. absurd (omega arith);
     shallow = λ i l. absurd (omega arith);
     known = λ i l. absurd (omega arith);
-    queued = λ t r e. absurd (none_some r (sym (none_at 256 t) ∙ e));
-    from = λ t r e. absurd (none_some r (sym (none_at 256 t) ∙ e));
-    unknown = λ t e. zero_at 256 t;
+    queued = λ t r e. absurd (none_some r (sym (ap (λ (x : Mark). x.root) (unmarked_at 256 t)) ∙ e));
+    from = λ t r e. absurd (none_some r (sym (ap (λ (x : Mark). x.root) (unmarked_at 256 t)) ∙ e));
+    unknown = λ t e. ap (λ (x : Mark). x.depth) (unmarked_at 256 t);
     around = λ i u s l e. absurd (omega arith);
   };
   done = λ x l p. absurd (omega arith);
 }
 
-module _ (m : Layout) (size : Sized m) (g : Growth) (h : Sound m g.count g) where
+module _ (m : Layout) (size : Sized m) (g : Growth) (h : Sound m (count g) g) where
   -- what is over a link of a table that was reached
   over_link : (t u r : ℕ) (s : Side) → root_in g t ≡ Some r → near m t s ≡ Some u → (root_in g u ≡ Some r) × (depth_in g u ≤ depth_in g t + 1)
   over_link t u r s root e =
@@ -107,7 +101,7 @@ module _ (m : Layout) (size : Sized m) (i : ℕ) (g : Growth) (w : Swept m i g) 
         ];
   }
 
-  pub swept_spread : (later : Growth) → Sound m later.count later → Kept g later → root_in later i ≡ Some i → Swept m (i + 1) later
+  pub swept_spread : (later : Growth) → Sound m (count later) later → Kept g later → root_in later i ≡ Some i → Swept m (i + 1) later
   swept_spread later s k own = record {
     sound = s;
     done = below_more (λ x. present m x ≡ true → (r : ℕ) × (root_in later x ≡ Some r)) i (λ x l p. (let d = w.done x l p in (d.0, k.roots x d.0 d.1))) (λ p. (i, own));

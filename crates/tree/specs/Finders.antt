@@ -1,5 +1,5 @@
 -- The way and the keys that a tree gives.
-use Rattle.std.specs.Prelude.{◌≡◌, ℕ, ◌<◌, List, length, None, Option, slice_index, slice_index_or}
+use Rattle.std.specs.Prelude.{◌≡◌, ℕ, Option, slice_index_or}
 use Rattle.map.specs.declared.side.Side.{Side}
 use Rattle.map.specs.Floors.{beside}
 use Rattle.map.specs.Layouts.{Layout}
@@ -7,27 +7,25 @@ use Rattle.orders.specs.declared.key.Pair.{Pair}
 use Rattle.links.specs.Trees.{root_of, depth, parent_side, parent_of}
 use Rattle.links.specs.Ways.{way_over, key_over}
 use Rattle.tree.specs.declared.tree.Tree.{Tree}
+use Rattle.tree.specs.declared.upward.Node.{Node}
+use Rattle.tree.specs.Nodes.{alone}
 
--- the places below i hold what f says
-abbrev pub Filled : {X : Type 0} → (ℕ → X) → X → List X → ℕ → Type 0
-Filled f d xs i = (length xs ≡ 256) × ((k : ℕ) → k < i → slice_index_or xs k d ≡ f k)
+-- what a tree holds of a table
+abbrev pub node_of : Tree → ℕ → Node
+node_of w t = slice_index_or w.nodes t alone
 
--- a row of numbers as a function of the table
-abbrev pub number_at : List ℕ → ℕ → ℕ
-number_at xs t = slice_index xs t
-
--- the rows of a tree as functions of the table
+-- the parts of that as functions of the table
 abbrev pub roots_of : Tree → ℕ → Option ℕ
-roots_of w t = slice_index_or w.roots t None
+roots_of w t = (node_of w t).root
 
 abbrev pub depths_of : Tree → ℕ → ℕ
-depths_of w = number_at w.depths
+depths_of w t = (node_of w t).depth
 
 abbrev pub sides_of : Tree → ℕ → Option Side
-sides_of w t = slice_index_or w.sides t None
+sides_of w t = (node_of w t).side
 
 abbrev pub parents_of : Tree → ℕ → Option ℕ
-parents_of w t = slice_index_or w.parents t None
+parents_of w t = (node_of w t).parent
 
 -- the tree holds the roots, depths and parents of the map
 pub record Holds (m : Layout) (w : Tree) : Type 0 where

@@ -1,31 +1,40 @@
 -- The tables of a map reached so far by spreading from root after root, each group breadth-first.
-use Rattle.std.specs.Prelude.{◌≡◌, ℕ, ◌+◌, ◌<◌, ◌≤◌, true, cond, List, [], ◌∷◌, length, is_some, Some, None, Option, slice_index, slice_index_or, slice_set}
+use Rattle.std.specs.Prelude.{◌≡◌, ℕ, ◌+◌, ◌<◌, ◌≤◌, true, cond, List, [], ◌∷◌, ◌++◌, length, is_some, Some, None, Option, slice_index, slice_index_or, slice_set}
 use Rattle.map.specs.declared.side.Side.{Side}
 use Rattle.map.specs.Layouts.{Layout}
 use Rattle.links.specs.Links.{near, present}
 use Rattle.links.specs.Groups.{Chain, RootOf}
 use Rattle.tree.specs.declared.growth.Growth.{Growth}
+use Rattle.tree.specs.declared.growth.Mark.{Mark}
+
+-- of a table that was not reached
+abbrev pub unmarked : Mark
+unmarked = record { root = None; depth = 0 }
 
 -- the root of a table that was reached
 abbrev pub root_in : Growth → ℕ → Option ℕ
-root_in g t = slice_index_or g.roots t None
+root_in g t = (slice_index_or g.marks t unmarked).root
 
 -- its depth
 abbrev pub depth_in : Growth → ℕ → ℕ
-depth_in g t = slice_index g.depths t
+depth_in g t = (slice_index_or g.marks t unmarked).depth
 
 -- the table at that place of the queue
 abbrev pub placed : Growth → ℕ → ℕ
-placed g i = slice_index g.queue i
+placed g i = slice_index g.queue.items i
+
+-- how many there are
+abbrev pub count : Growth → ℕ
+count g = length g.queue.items
 
 -- how many tables have no root yet
-abbrev pub missing : List (Option ℕ) → ℕ
+abbrev pub missing : List Mark → ℕ
 missing [] = 0
-missing (o ∷ os) = cond (is_some o) 0 1 + missing os
+missing (x ∷ xs) = cond (is_some x.root) 0 1 + missing xs
 
 -- t joins at the end of the queue
 abbrev pub reached : Growth → ℕ → ℕ → ℕ → Growth
-reached g t r e = record { roots = slice_set g.roots t (Some r); depths = slice_set g.depths t e; queue = slice_set g.queue g.count t; count = g.count + 1 }
+reached g t r e = record { marks = slice_set g.marks t (record { root = Some r; depth = e }); queue = record { items = g.queue.items ++ t ∷ [] } }
 
 -- t was reached from r: the lowest table of its group, which was reached itself
 pub record From (m : Layout) (g : Growth) (t r : ℕ) : Type 0 where
@@ -37,16 +46,14 @@ pub record From (m : Layout) (g : Growth) (t r : ℕ) : Type 0 where
 
 -- what always holds, where so many tables were taken from the queue
 pub record Sound (m : Layout) (taken : ℕ) (g : Growth) : Type 0 where
-  pub roots_long : length g.roots ≡ 256
-  pub depths_long : length g.depths ≡ 256
-  pub queue_long : length g.queue ≡ 256
-  pub counted : g.count + missing g.roots ≡ 256
-  pub taken_few : taken ≤ g.count
+  pub marks_long : length g.marks ≡ 256
+  pub counted : count g + missing g.marks ≡ 256
+  pub taken_few : taken ≤ count g
   -- the queue has the tables that were reached
-  pub small : (i : ℕ) → i < g.count → placed g i < 256
-  pub shallow : (i : ℕ) → i < g.count → depth_in g (placed g i) ≤ i
-  pub known : (i : ℕ) → i < g.count → (r : ℕ) × (root_in g (placed g i) ≡ Some r)
-  pub queued : (t r : ℕ) → root_in g t ≡ Some r → (i : ℕ) × (i < g.count) × (placed g i ≡ t)
+  pub small : (i : ℕ) → i < count g → placed g i < 256
+  pub shallow : (i : ℕ) → i < count g → depth_in g (placed g i) ≤ i
+  pub known : (i : ℕ) → i < count g → (r : ℕ) × (root_in g (placed g i) ≡ Some r)
+  pub queued : (t r : ℕ) → root_in g t ≡ Some r → (i : ℕ) × (i < count g) × (placed g i ≡ t)
   pub from : (t r : ℕ) → root_in g t ≡ Some r → From m g t r
   pub unknown : (t : ℕ) → root_in g t ≡ None → depth_in g t ≡ 0
   -- the neighbours of a table that was taken are reached, and not much deeper
@@ -56,9 +63,9 @@ pub record Sound (m : Layout) (taken : ℕ) (g : Growth) : Type 0 where
 -- group, their depths never fall, and no table of it is deeper than that one by more than one
 pub record Spreading (m : Layout) (r place : ℕ) (g : Growth) : Type 0 where
   pub sound : Sound m place g
-  pub own : (i : ℕ) → place ≤ i → i < g.count → root_in g (placed g i) ≡ Some r
-  pub sorted : (i j : ℕ) → place ≤ i → i ≤ j → j < g.count → depth_in g (placed g i) ≤ depth_in g (placed g j)
-  pub level : (u : ℕ) → place < g.count → root_in g u ≡ Some r → depth_in g u ≤ depth_in g (placed g place) + 1
+  pub own : (i : ℕ) → place ≤ i → i < count g → root_in g (placed g i) ≡ Some r
+  pub sorted : (i j : ℕ) → place ≤ i → i ≤ j → j < count g → depth_in g (placed g i) ≤ depth_in g (placed g j)
+  pub level : (u : ℕ) → place < count g → root_in g u ≡ Some r → depth_in g u ≤ depth_in g (placed g place) + 1
 
 -- the neighbour on that side is reached
 abbrev pub Seen : Layout → ℕ → ℕ → Side → Growth → Type 0
@@ -68,5 +75,10 @@ Seen m r place s g = (u : ℕ) → near m (placed g place) s ≡ Some u → (roo
 pub record Kept (old new : Growth) : Type 0 where
   pub roots : (t r : ℕ) → root_in old t ≡ Some r → root_in new t ≡ Some r
   pub depths : (t r : ℕ) → root_in old t ≡ Some r → depth_in new t ≡ depth_in old t
-  pub places : (i : ℕ) → i < old.count → placed new i ≡ placed old i
-  pub more : old.count ≤ new.count
+  pub places : (i : ℕ) → i < count old → placed new i ≡ placed old i
+  pub more : count old ≤ count new
+
+-- the groups of the tables below i are reached
+pub record Swept (m : Layout) (i : ℕ) (g : Growth) : Type 0 where
+  pub sound : Sound m (count g) g
+  pub done : (x : ℕ) → x < i → present m x ≡ true → (r : ℕ) × (root_in g x ≡ Some r)

@@ -1,2 +1,3 @@
 pub mod Growths
+pub mod Nodes
 pub mod Finders

@@ -1,50 +1,65 @@
-ghost use Rattle.std.specs.Prelude.{◌≡◌, ℕ, suc, ◌<◌, ◌≤◌, true, Some, None};
+ghost use Rattle.std.specs.Prelude.{◌≡◌, ℕ, suc, ◌+◌, ◌<◌, ◌≤◌, true, Some, None};
 ghost use Rattle.map.specs.Layouts.{layout};
 ghost use Rattle.links.specs.Links.{near, present};
 ghost use Rattle.links.specs.Groups.{RootOf};
 ghost use Rattle.links.specs.Trees.{root_of, depth};
-ghost use Rattle.tree.specs.Growths.{root_in, depth_in, reached, Sound, Spreading, Seen, Kept};
+ghost use Rattle.tree.specs.Growths.{root_in, depth_in, placed, count, reached, Sound, Spreading, Seen, Kept, Swept};
 
 use crate::near::{is_present, near};
+use arrayvec::ArrayVec;
 use map::map::Map;
-use map::side::Side;
+use map::side::{SIDES, Side};
 
-/// The tables reached so far, each with its root and its depth, and the order in which they
-/// were reached.
+/// What is known of a table: its root, once it was reached, and its depth.
 #[derive(Clone, Copy)]
-pub struct Growth {
-    pub roots: [Option<u8>; 256],
-    pub depths: [u8; 256],
-    queue: [u8; 256],
-    count: usize,
+pub struct Mark {
+    pub root: Option<u8>,
+    pub depth: u8,
 }
 
+/// The marks of the tables, and those reached so far in the order in which they were reached:
+/// nothing on the heap.
+#[derive(Drop)]
+pub struct Growth {
+    pub marks: [Mark; 256],
+    queue: ArrayVec<u8, 256>,
+}
+
+// The map is passed along: kept in the struct, each clause would have to say that it stays.
 impl Growth {
     // The table joins at the end of the queue.
     fn reach(&mut self, table: u8, root: u8, depth: u8)
-        requires { self.old.count < 256 }
+        requires { count self.old < 256 }
         ensures { self.new ≡ reached self.old table root depth }
     {
-        self.roots[table as usize] = Some(root);
-        self.depths[table as usize] = depth;
-        self.queue[self.count] = table;
-        self.count += 1;
+        self.marks[table as usize] = Mark {
+            root: Some(root),
+            depth,
+        };
+        self.queue.push(table);
+    }
+
+    fn placed(&self, place: usize) -> u8
+        requires { place < count self.now }
+        ensures { result ≡ placed self.now place }
+    {
+        self.queue[place]
     }
 
     // Reaches the neighbour over the link on that side of the table at this place of the queue.
     fn visit(&mut self, map: &Map, root: u8, place: usize, side: Side)
         requires spreading { Spreading (layout map.now) root place self.old }
-        requires within { place < self.old.count }
+        requires within { place < count self.old }
         ensures spreading { Spreading (layout map.now) root place self.new }
         ensures kept { Kept self.old self.new }
         ensures seen { Seen (layout map.now) root place side self.new }
     {
-        let table = self.queue[place];
+        let table = self.placed(place);
         let Some(other) = near(map, table, side) else {
             return;
         };
-        if self.roots[other as usize].is_none() {
-            let depth = self.depths[table as usize] + 1;
+        if self.marks[other as usize].root.is_none() {
+            let depth = self.marks[table as usize].depth + 1;
             self.reach(other, root, depth);
         }
     }
@@ -52,52 +67,61 @@ impl Growth {
     // Reaches the neighbours of the table at this place of the queue.
     fn look_around(&mut self, map: &Map, root: u8, place: usize)
         requires spreading { Spreading (layout map.now) root place self.old }
-        requires within { place < self.old.count }
+        requires within { place < count self.old }
         ensures spreading { Spreading (layout map.now) root (suc place) self.new }
         ensures kept { Kept self.old self.new }
     {
-        self.visit(map, root, place, Side::North);
-        self.visit(map, root, place, Side::East);
-        self.visit(map, root, place, Side::South);
-        self.visit(map, root, place, Side::West);
+        for side in SIDES {
+            self.visit(map, root, place, side);
+        }
     }
 
     // Reaches the group of the root, each table from the first taken from the queue that is next
     // to it: in the queue depths never fall.
     fn spread(&mut self, map: &Map, root: u8)
-        requires sound { Sound (layout map.now) self.old.count self.old }
+        requires sound { Sound (layout map.now) (count self.old) self.old }
         requires fresh { root_in self.old root ≡ None }
         requires there { present (layout map.now) root ≡ true }
         requires lowest { RootOf (near (layout map.now)) root root }
-        ensures sound { Sound (layout map.now) self.new.count self.new }
+        ensures sound { Sound (layout map.now) (count self.new) self.new }
         ensures kept { Kept self.old self.new }
         ensures own { root_in self.new root ≡ Some root }
     {
-        let mut place = self.count;
+        let mut place = self.queue.len();
         self.reach(root, root, 0);
-        while place < self.count {
+        // a while, since the queue grows under it
+        while place < self.queue.len() {
             self.look_around(map, root, place);
             place += 1;
         }
     }
+
+    // Reaches the group of the table, where it is in one that was not reached: the first table of
+    // a group that is met is its lowest.
+    fn reach_group(&mut self, map: &Map, table: u8)
+        requires { Swept (layout map.now) table self.old }
+        ensures { Swept (layout map.now) (table + 1) self.new }
+    {
+        if is_present(map, table) && self.marks[table as usize].root.is_none() {
+            self.spread(map, table);
+        }
+    }
 }
 
-/// The root and the depth of each table: the first table of a group that is met is its lowest.
+/// The root and the depth of each table.
 pub fn grow(map: &Map) -> Growth
     ensures roots { (t : ℕ) → root_in result t ≡ root_of (layout map.now) t }
     ensures depths { (t : ℕ) → depth_in result t ≡ depth (layout map.now) t }
 {
     let mut growth = Growth {
-        roots: [None; 256],
-        depths: [0; 256],
-        queue: [0; 256],
-        count: 0,
+        marks: [Mark {
+            root: None,
+            depth: 0,
+        }; 256],
+        queue: ArrayVec::new(),
     };
-    for i in 0..256usize {
-        let table = i as u8;
-        if is_present(map, table) && growth.roots[i].is_none() {
-            growth.spread(map, table);
-        }
+    for table in 0..=255u8 {
+        growth.reach_group(map, table);
     }
     growth
 }

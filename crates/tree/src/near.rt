@@ -6,6 +6,7 @@ use map::map::Map;
 use map::side::Side;
 
 /// The neighbour on that side, where the link to it is open.
+#[tactic(auto, unfolding(links::specs::Links::near))]
 pub fn near(map: &Map, table: u8, side: Side) -> Option<u8>
     ensures { result ≡ near (layout map.now) table side }
 {

@@ -2,16 +2,18 @@ ghost use Rattle.std.specs.Prelude.{◌≡◌, ℕ};
 ghost use Rattle.map.specs.Floors.{beside};
 ghost use Rattle.map.specs.Layouts.{layout};
 ghost use Rattle.links.specs.Courses.{Meaning, Leads};
-ghost use Rattle.links.specs.Ways.{child_on, reversed, towards, one_group, tree_way, tree_key, is_side, key_at};
+ghost use Rattle.links.specs.Ways.{child_on, towards, one_group, tree_way, tree_key, key_at};
 ghost use Rattle.links.specs.Words.{WaysMeant, KeysMeant};
 ghost use Rattle.tree.specs.Finders.{Holds, roots_of, depths_of, sides_of, parents_of, way_by, key_by};
 
 use crate::growth::grow;
-use crate::upward::{parents_of, sides_of};
+use crate::upward::{Node, Upward};
 use map::map::Map;
 use map::side::Side;
+use map::size::LARGEST;
 use orders::key::Pair;
 use orders::ranker::Ranker;
+use std::array;
 use ways::finder::WayFinder;
 
 // The key of a segment that joins no table with its parent.
@@ -20,13 +22,11 @@ const OFF_TREE: Pair<u16, u16> = Pair {
     second: 0,
 };
 
-/// The trees of all groups of a map: of each table its root, its depth and its parent.
+/// The trees of all groups of a map: of each table its root, its depth and its parent. An array,
+/// since the library has no heap.
 #[derive(Clone, Copy)]
 pub struct Tree {
-    roots: [Option<u8>; 256],
-    depths: [u8; 256],
-    sides: [Option<Side>; 256],
-    parents: [Option<u8>; 256],
+    nodes: [Node; 256],
 }
 
 impl Tree {
@@ -40,31 +40,23 @@ impl Tree {
         ensures leads { Leads (layout map.now) }
     {
         let growth = grow(map);
-        let sides = sides_of(map, &growth.depths);
-        let parents = parents_of(map, &sides);
+        let upward = Upward {
+            map,
+            growth: &growth,
+        };
         Tree {
-            roots: growth.roots,
-            depths: growth.depths,
-            sides,
-            parents,
+            nodes: array::from_fn(|table| upward.node(table as u8)),
         }
     }
 
-    fn parent(&self, table: u8) -> Option<u8>
-        ensures { result ≡ parents_of self.now table }
-    {
-        self.parents[table as usize]
-    }
-
     // The table on the line from the destination to its root whose parent is the table.
+    #[tactic(auto, using(crate::proofs::Climbs::climbs))]
     fn child(&self, table: u8, destination: u8) -> Option<u8>
         ensures { result ≡ child_on (parents_of self.now) 255 table destination }
     {
         let mut x = destination;
-        for i in 0..255u16 {
-            let Some(parent) = self.parent(x) else {
-                return None;
-            };
+        for _ in 0..255u16 {
+            let parent = self.nodes[x as usize].parent?;
             if parent == table {
                 return Some(x);
             }
@@ -78,8 +70,8 @@ impl Tree {
         ensures { result ≡ towards (sides_of self.now) table (child_on (parents_of self.now) 255 table destination) }
     {
         match self.child(table, destination) {
-            None => self.sides[table as usize],
-            Some(child) => reversed(self.sides[child as usize]),
+            None => self.nodes[table as usize].side,
+            Some(child) => self.nodes[child as usize].side.map(Side::opposite),
         }
     }
 
@@ -87,70 +79,36 @@ impl Tree {
     fn one_group(&self, table: u8, destination: u8) -> bool
         ensures { result ≡ one_group (roots_of self.now table) (roots_of self.now destination) }
     {
-        match (self.roots[table as usize], self.roots[destination as usize]) {
-            (Some(a), Some(b)) => a == b,
-            _ => false,
-        }
+        let root = self.nodes[table as usize].root;
+        let other = self.nodes[destination as usize].root;
+        root.zip(other).is_some_and(|(a, b)| a == b)
     }
 
     // The key of the segment that leaves the table on that side.
     fn key_at(&self, table: u8, side: Side) -> Pair<u16, u16>
         ensures { result ≡ key_at (beside 16 16) (depths_of self.now) (sides_of self.now) table side }
     {
-        if is_side(self.sides[table as usize], side) {
+        let node = &self.nodes[table as usize];
+        if node.side == Some(side) {
             return Pair {
                 first: 0,
-                second: 255 - self.depths[table as usize] as u16,
+                second: 255u16.saturating_sub(node.depth),
             };
         }
-        let Some(other) = beside(table, side) else {
+        // a tree has no map: neighbours are those on the largest floor
+        let Some(other) = LARGEST.beside(table, side) else {
             return OFF_TREE;
         };
-        if is_side(self.sides[other as usize], side.opposite()) {
+        let child = &self.nodes[other as usize];
+        if child.side == Some(side.opposite()) {
             Pair {
                 first: 1,
-                second: self.depths[other as usize] as u16,
+                second: child.depth,
             }
         } else {
             OFF_TREE
         }
     }
-}
-
-fn reversed(side: Option<Side>) -> Option<Side>
-    ensures { result ≡ reversed side }
-{
-    Some(side?.opposite())
-}
-
-fn is_side(side: Option<Side>, other: Side) -> bool
-    ensures { result ≡ is_side side other }
-{
-    match side {
-        None => false,
-        Some(s) => s.number() == other.number(),
-    }
-}
-
-// The table on that side on the largest floor.
-fn beside(table: u8, side: Side) -> Option<u8>
-    ensures { result ≡ beside 16 16 table side }
-{
-    let there = match side {
-        Side::North => table / 16 > 0,
-        Side::East => table % 16 < 15,
-        Side::South => table / 16 < 15,
-        Side::West => table % 16 > 0,
-    };
-    if !there {
-        return None;
-    }
-    Some(match side {
-        Side::North => table - 16,
-        Side::East => table + 1,
-        Side::South => table + 16,
-        Side::West => table - 1,
-    })
 }
 
 impl WayFinder for Tree {
@@ -162,6 +120,7 @@ impl WayFinder for Tree {
         0
     }
 
+    #[tactic(auto, unfolding(links::specs::Ways::way_over))]
     fn way(&self, table: u8, destination: u8, note: u32) -> Option<(Side, u32)> {
         if table == destination {
             return None;
@@ -178,6 +137,7 @@ impl Ranker for Tree {
 
     ghost key = { key_by };
 
+    #[tactic(auto, unfolding(links::specs::Ways::key_over))]
     fn key(&self, segment: u16) -> Pair<u16, u16> {
         if segment >= 1024 {
             return OFF_TREE;

@@ -1,6 +1,6 @@
 use Rattle.map.specs.Layouts.{layout}
-use Rattle.tree.proofs.Sweeps.{Swept}
+use Rattle.tree.specs.Growths.{Swept}
 use Rattle.tree.proofs.growth.grow.Given as goal
 
-abbrev pub invariant-loop-i : goal.invariant-loop-i
-invariant-loop-i l = Swept (layout l.map) l.i l.growth
+abbrev pub invariant-loop-table : goal.invariant-loop-table
+invariant-loop-table l = Swept (layout l.map) l.table l.growth

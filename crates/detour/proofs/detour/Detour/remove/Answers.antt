@@ -1,11 +1,5 @@
-use Rattle.std.proofs.Common.{rules}
 use Rattle.detour.proofs.Pairs.{removed}
 use Rattle.detour.proofs.detour.Detour.remove.Goals as goal
 
-pub returns : goal.returns
-returns g c =
-    record {
-      outcome = search rules;
-      later = search rules;
-      only = rw c.free_pair.ensures (removed c.args.origin c.args.destination c.args.self.now.vias);
-    }
+pub returns-clause-only : goal.returns-clause-only
+returns-clause-only g c = rw c.remove.ensures (removed c.args.origin c.args.destination c.args.self.now.vias)

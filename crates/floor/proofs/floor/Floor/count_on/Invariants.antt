@@ -3,9 +3,6 @@ use Rattle.trays.specs.Lefts.{walk}
 use Rattle.floor.specs.Floors.{site_in}
 use Rattle.floor.proofs.floor.Floor.count_on.Given as goal
 
-abbrev pub invariant-loop-head : goal.invariant-loop-head
-invariant-loop-head g l =
-    (1 ≤ l.count) × (l.count ≤ 960) × (walk (site_in g.W.WayFinder l.self) l.destination (960 - l.count) l.count l.at l.carried ≡ walk (site_in g.W.WayFinder l.self) l.destination 959 1 l.segment l.note)
-
-abbrev pub decreases-loop-head : goal.decreases-loop-head
-decreases-loop-head g l = 960 - l.count
+abbrev pub invariant-loop-count : goal.invariant-loop-count
+invariant-loop-count g l =
+    (l.count ≤ 960) × (walk (site_in g.W.WayFinder l.self) l.destination (960 - l.count) l.count l.at l.carried ≡ walk (site_in g.W.WayFinder l.self) l.destination 959 1 l.segment l.note)

@@ -3,5 +3,5 @@ use Rattle.tree.specs.Finders.{parents_of}
 use Rattle.tree.proofs.Climbs.{Climbed}
 use Rattle.tree.proofs.tree.Tree.child.Given as goal
 
-abbrev pub invariant-loop-i : goal.invariant-loop-i
-invariant-loop-i l = (l.x < 256) × Climbed (parents_of l.self) l.table l.destination l.i l.x
+abbrev pub invariant-loop : goal.invariant-loop
+invariant-loop l = (l.x < 256) × Climbed (parents_of l.self) l.table l.destination l.counter l.x

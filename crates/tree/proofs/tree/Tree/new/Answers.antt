@@ -1,10 +1,14 @@
+use Rattle.std.proofs.Common.{rules}
+use borrow.Author.Tests.{tests}
 use Rattle.map.specs.Layouts.{layout}
 use Rattle.links.proofs.Nearby.{map_sized}
 use Rattle.links.proofs.Grown.{meaning, leads}
 use Rattle.links.proofs.Told.{ways_meant, keys_meant}
 use Rattle.tree.specs.declared.tree.Tree.{Tree}
 use Rattle.tree.specs.Finders.{Holds}
-use Rattle.tree.proofs.Held.{sides_held, parents_held, ways_held, keys_held}
+use Rattle.tree.specs.Nodes.{alone, node_in}
+use Rattle.tree.proofs.Fills.{made}
+use Rattle.tree.proofs.Held.{held, ways_held, keys_held}
 use Rattle.tree.proofs.tree.Tree.new.Goals as goal
 
 pub returns : goal.returns
@@ -12,14 +16,7 @@ returns c =
     let m = layout c.args.map.now in
     let size = map_sized c.args.map.now in
     let g = c.grow-growth.result in
-    let depths = c.grow-growth.ensures.depths in
-    let sides = c.sides_of-sides.ensures in
-    let parents = c.parents_of-parents.ensures in
-    let w : Tree = record { roots = g.roots; depths = g.depths; sides = c.sides_of-sides.result; parents = c.parents_of-parents.result } in
-    let held : Holds m w = record {
-      roots = c.grow-growth.ensures.roots;
-      depths = depths;
-      sides = sides_held m size g.depths c.sides_of-sides.result c.parents_of-parents.result depths sides;
-      parents = parents_held m size g.depths c.sides_of-sides.result c.parents_of-parents.result depths sides parents;
-    } in
+    let w : Tree = record { nodes = c.from_fn.result } in
+    let held : Holds m w = held m size g (search rules) c.grow-growth.ensures.roots c.grow-growth.ensures.depths w c.from_fn.ensures.items.long
+    (λ t l. made _ _ (node_in m g) (λ i y q k. search (rules, tests)) c.from_fn.result 256 c.from_fn.ensures.items t l alone) in
     record { holds = held; ways = ways_held m size w held; keys = keys_held m size w held; meaning = meaning m size; meant_ways = ways_meant m size; meant_keys = keys_meant m size; leads = leads m size }
