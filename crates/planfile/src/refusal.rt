@@ -33,11 +33,10 @@ impl Refusal {
     {
         match self {
             Refusal::BadLength => Some(0),
-            Refusal::BadSum { block } => Some(block),
-            Refusal::BadFront { block } => Some(block),
-            Refusal::BadContent { block } => Some(block),
-            Refusal::ShortBuffer => None,
-            Refusal::WrongKeys => None,
+            Refusal::BadSum { block }
+            | Refusal::BadFront { block }
+            | Refusal::BadContent { block } => Some(block),
+            Refusal::ShortBuffer | Refusal::WrongKeys => None,
         }
     }
 }
