@@ -6,3 +6,4 @@ pub mod Layouts
 pub mod Readings
 pub mod Rewriting
 pub mod Again
+pub mod Made
