@@ -26,6 +26,7 @@ impl Content {
     pub fn kind(self) -> u8
         ensures { result ≡ kind_of self }
     {
+        // the format's byte, by a match: variants that hold something have no number of their own
         match self {
             Content::Stops => 1,
             Content::Ways { .. } => 2,

@@ -5,6 +5,7 @@ ghost use Rattle.planfile.specs.Layouts.{in_body, is_there, stop_fits, head_byte
 
 use crate::block::{Content, Head};
 use crate::look::byte;
+use map::side::Side;
 
 /// What follows a block's first four bytes, and the head of its file. Places count from the start
 /// of the block.
@@ -14,6 +15,7 @@ pub(crate) struct Body<'a> {
     pub(crate) bytes: &'a [u8],
 }
 
+// A head is judged here for the first time, so its bytes are no `Size` of the map yet.
 impl Head {
     fn on_floor(self, table: u8) -> bool
         ensures { result ≡ on_floor self.width self.height table }
@@ -24,19 +26,16 @@ impl Head {
     fn is_there(self, segment: u16) -> bool
         ensures { result ≡ is_there self segment }
     {
-        if segment >= 1024 {
+        let Ok(table) = u8::try_from(segment / 4) else {
             return false;
-        }
-        let table = (segment / 4) as u8;
-        if !self.on_floor(table) {
-            return false;
-        }
-        match segment % 4 {
-            0 => table / 16 > 0,
-            1 => table % 16 + 1 < self.width,
-            2 => table / 16 + 1 < self.height,
-            _ => table % 16 > 0,
-        }
+        };
+        self.on_floor(table)
+            && match Side::of_segment(segment) {
+                Side::North => table / 16 > 0,
+                Side::East => table % 16 + 1 < self.width,
+                Side::South => table / 16 + 1 < self.height,
+                Side::West => table % 16 > 0,
+            }
     }
 
     fn entry_fits(self, stop: u8, table: u8, entry: u8) -> bool

@@ -43,6 +43,7 @@ pub(crate) fn judge(file: &[u8]) -> Result<(), Refusal>
     if file.len() != 512 * (usize::from(head.count) + 9) {
         return Err(Refusal::BadLength);
     }
+    // each block is judged in place, in a part cut from the middle of the file
     for number in 1..head.count + 9 {
         let at = 512 * usize::from(number);
         read_block(&file[at..at + 512], number, head, content_at(file, number))?;

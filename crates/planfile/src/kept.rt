@@ -11,6 +11,7 @@ use ways::finder::WayFinder;
 /// caller's bytes.
 #[derive(Clone, Copy)]
 pub struct KeptPlan {
+    // as many as any file has, since the library never allocates
     bytes: [u8; 37_376],
 }
 

@@ -33,11 +33,6 @@ pub(crate) fn entry_at(file: &[u8], i: u8, table: u8) -> u8
 pub(crate) fn entry_way(entry: u8) -> Option<(Side, u32)>
     ensures { result ≡ entry_way entry }
 {
-    match entry {
-        0 => Some((Side::North, 0)),
-        1 => Some((Side::East, 0)),
-        2 => Some((Side::South, 0)),
-        3 => Some((Side::West, 0)),
-        _ => None,
-    }
+    let side = Side::try_from(entry).ok()?;
+    Some((side, 0))
 }

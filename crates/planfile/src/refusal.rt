@@ -17,6 +17,7 @@ impl Refusal {
     pub fn number(self) -> u8
         ensures { result ≡ refusal_number self }
     {
+        // by a match: variants that hold a block have no number of their own
         match self {
             Refusal::BadLength => 9,
             Refusal::BadSum { .. } => 10,

@@ -49,6 +49,7 @@ pub fn write<W: WayFinder>(
     if buffer.len() < length {
         return Err(Refusal::ShortBuffer);
     }
+    // by place: of chunks that a loop writes, std does not say what the whole slice holds then
     for k in 0..source.block_count() {
         let at = 512 * k;
         buffer[at..at + 512].copy_from_slice(&source.block(k as u8));
