@@ -1,3 +1,4 @@
+pub mod Regions
 pub mod StopLists
 pub mod Pieces
 pub mod Sources

@@ -4,7 +4,7 @@ use borrow.Rule.Slice.PartMut.{put_mid}
 use Rattle.std.proofs.lemmas.List.FromFn.{length-map-range_with_len}
 use Rattle.std.proofs.lemmas.List.{drop-drop, drop_all, length-append, take-append-drop, append_assoc, append-nil}
 use Rattle.std.proofs.lemmas.Slice.{take-put_mid, drop-put_mid}
-use Rattle.std.proofs.lemmas.Bool.{eq-eqb, le-leb, cond-true}
+use Rattle.std.proofs.lemmas.Bool.Decides.{nat_tests}
 use Rattle.std.specs.List.{range_with_len}
 use Rattle.blocks.specs.Words.{word_sum, closed, big_endian, last_word}
 use Rattle.planfile.specs.declared.block.Content.{Content}
@@ -20,8 +20,7 @@ put_last xs ys e =
     ap (λ r. take 508 xs ++ (ys ++ r)) none ∙ ap (λ r. take 508 xs ++ r) (append-nil ys)
 
 pub written_ok : (keys buffer stops count : ℕ) → keys ≡ 1024 → 512 * (stops + 9) ≤ buffer → stops ≡ count → Ok (512 * (count + 9)) ≡ write_outcome keys buffer stops
-written_ok keys buffer stops count k room same =
-    ap (λ n. Ok (512 * (n + 9))) (sym same) ∙ sym (cond-true _ _ _ (eq-eqb keys 1024 k) ∙ cond-true _ _ _ (le-leb (512 * (stops + 9)) buffer room))
+written_ok keys buffer stops count k room same = grind (arith, nat_tests)
 
 -- 508 bytes of a block, and the word behind them
 pub closed_block : (source : Source) (content : Content) (number : ℕ) (xs last : List ℕ) → length xs ≡ 512
