@@ -1,7 +1,6 @@
-ghost use Rattle.std.specs.Prelude.{◌≡◌, ◌+◌, ◌<◌, ◌≤◌, ◌++◌, length, take, drop, MatchResult, OnOk};
+ghost use Rattle.std.specs.Prelude.{◌≡◌, ◌++◌, length, drop, MatchResult, OnOk};
 ghost use Rattle.planfile.specs.Promises.{PlanFile};
 ghost use Rattle.map.specs.Layouts.{layout};
-ghost use Rattle.blocks.specs.Words.{closed};
 ghost use Rattle.planwriter.specs.Stops.{stops_of};
 ghost use Rattle.planwriter.specs.Promises.{ReadBack, WrittenAgain};
 ghost use Rattle.planwriter.specs.Files.{block_of, content_of, file_of, source_of, write_outcome};
