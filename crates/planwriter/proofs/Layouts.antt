@@ -12,7 +12,7 @@ use Rattle.blocks.proofs.Sums.{sum_closed}
 use Rattle.planfile.specs.declared.block.Head.{Head}
 use Rattle.planfile.specs.declared.block.Content.{Content}
 use Rattle.planfile.specs.declared.block.Content.TheVariants.{Stops, Ways, Keys}
-use Rattle.planfile.specs.Layouts.{in_body, size_fits, stop_fits, head_byte_fits, entry_fits, way_byte_fits, is_there, key_byte_fits, byte_fits}
+use Rattle.planfile.specs.Layouts.{in_body, stop_fits, head_byte_fits, entry_fits, way_byte_fits, is_there, key_byte_fits, byte_fits}
 use Rattle.planfile.specs.Outcomes.{block_at, content_at}
 use Rattle.planfile.specs.Promises.{GoodBlock, PlanFile}
 use Rattle.planwriter.specs.Files.{Source, head_byte, way_byte, key_half, key_byte, content_byte, block_byte, block_of, content_of, file_of}
@@ -27,9 +27,6 @@ block_adds source content number = sum_closed (map (block_byte source content nu
 
 zero_fits : (b : ℕ) → b ≡ 0 → eqb b 0 ≡ true
 zero_fits b e = eq-eqb b 0 e
-
-size_fits_lem : (b n : ℕ) → b ≡ n → (1 ≤ n) × (n ≤ 16) → size_fits b ≡ true
-size_fits_lem b n e s = grind (arith, nat_tests)
 
 module _ (source : Source) (sound : Sound source) where
   abbrev head : Head

@@ -1,26 +1,22 @@
 -- What writes into a part of a buffer leave.
-use Rattle.std.proofs.Common.{◌≡◌, ℕ, zero, suc, ◌+◌, ◌-◌, ◌*◌, ◌<◌, ◌≤◌, List, [], ◌++◌, map, length, take, drop, Ok, Option, sym, refl, ap, ◌∙◌, arith}
+use Rattle.std.proofs.Common.{◌≡◌, ℕ, zero, suc, ◌+◌, ◌-◌, ◌*◌, ◌<◌, ◌≤◌, List, [], ◌++◌, map, length, take, drop, Option, sym, refl, ap, ◌∙◌, arith}
 use borrow.Rule.Slice.PartMut.{put_mid}
 use Rattle.std.proofs.lemmas.List.FromFn.{length-map-range_with_len}
 use Rattle.std.proofs.lemmas.List.{drop-drop, drop_all, length-append, take-append-drop, append_assoc, append-nil}
 use Rattle.std.proofs.lemmas.Slice.{take-put_mid, drop-put_mid}
-use Rattle.std.proofs.lemmas.Bool.Decides.{nat_tests}
 use Rattle.std.specs.List.{range_with_len}
 use Rattle.blocks.specs.Words.{word_sum, closed, big_endian, last_word}
 use Rattle.planfile.specs.declared.block.Content.{Content}
 use Rattle.map.specs.declared.side.Side.{Side}
 use Rattle.map.specs.Layouts.{Layout}
 use Rattle.planwriter.specs.Stops.{stops_of}
-use Rattle.planwriter.specs.Files.{Source, source_of, block_byte, block_of, content_of, blocks_from, file_of, write_outcome}
+use Rattle.planwriter.specs.Files.{Source, source_of, block_byte, block_of, content_of, blocks_from, file_of}
 
 -- after a write to the last four bytes
 pub put_last : (xs ys : List ℕ) → length xs ≡ 512 → put_mid 508 4 xs ys ≡ take 508 xs ++ ys
 put_last xs ys e =
     let none : drop 4 (drop 508 xs) ≡ [] = drop-drop 4 508 xs ∙ drop_all 512 xs (omega arith) in
     ap (λ r. take 508 xs ++ (ys ++ r)) none ∙ ap (λ r. take 508 xs ++ r) (append-nil ys)
-
-pub written_ok : (keys buffer stops count : ℕ) → keys ≡ 1024 → 512 * (stops + 9) ≤ buffer → stops ≡ count → Ok (512 * (count + 9)) ≡ write_outcome keys buffer stops
-written_ok keys buffer stops count k room same = grind (arith, nat_tests)
 
 -- 508 bytes of a block, and the word behind them
 pub closed_block : (source : Source) (content : Content) (number : ℕ) (xs last : List ℕ) → length xs ≡ 512
@@ -66,9 +62,6 @@ module _ (source : Source) where
   pub record Standing (was is : List ℕ) (k : ℕ) : Type 0 where
     pub done : take (512 * k) is ++ blocks_from source (length source.stops + 9 - k) k ≡ file_of source
     pub rest : drop (512 * k) is ≡ drop (512 * k) was
-
-  pub standing_none : (was : List ℕ) → Standing was was 0
-  standing_none was = let e : length source.stops + 9 - 0 ≡ length source.stops + 9 = omega arith in record { done = ap (λ j. blocks_from source j 0) e; rest = refl }
 
   pub standing_more : (was is block : List ℕ) (k : ℕ) → k < length source.stops + 9 → 512 * (length source.stops + 9) ≤ length is
       → block ≡ block_no k → Standing was is k → Standing was (put_mid (512 * k) (512 * k + 512 - 512 * k) is block) (k + 1)

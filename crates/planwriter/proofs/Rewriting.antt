@@ -3,7 +3,7 @@ use Rattle.std.proofs.Common.{◌≡◌, ℕ, zero, suc, ◌+◌, ◌-◌, ◌*�
 use Rattle.std.proofs.lemmas.Nat.{div-mul-add, mod-mul-add, div-add-mod'}
 use Rattle.std.proofs.lemmas.List.FromFn.{fill_by_all}
 use Rattle.std.proofs.lemmas.List.{get_or-take, get_or-drop, get_or_past, length-take-le, length-drop, drop-drop, drop_all, take-append-drop}
-use Rattle.std.proofs.lemmas.Bool.{cases_eq, cases_lt, eq-eqb, eqb-true, ne_eqb, lt-ltb, le-ltb, cond-true, cond-false, and_from, not_from_false, both_ways}
+use Rattle.std.proofs.lemmas.Bool.{cases_eq, cases_lt, eq-eqb, ne_eqb, lt-ltb, le-ltb, cond-true, cond-false, and_from, not_from_false, both_ways}
 use Rattle.std.proofs.lemmas.Bool.Decides.{nat_tests}
 use Rattle.map.specs.declared.side.Side.{Side}
 use Rattle.map.specs.Floors.{on_floor}
@@ -71,9 +71,6 @@ module _ (layout : Layout) (first : ℕ → ℕ → ℕ) (way : ℕ → ℕ → 
   -- the layout's rule for a byte, by what its block holds
   rule : (k p : ℕ) (content : Content) → k < n + 9 → 4 ≤ p → p < 508 → content_at file k ≡ content → byte_fits (file_head file) content (drop 4 (block_at file k)) p ≡ true
   rule k p content h low high e = ap (λ c. byte_fits (file_head file) c (drop 4 (block_at file k)) p) (sym e) ∙ (f.blocks k h).bytes p low high
-
-  is_zero : (k p : ℕ) → 4 ≤ p → p < 508 → eqb (in_body (drop 4 (block_at file k)) p) 0 ≡ true → get_or file (512 * k + p) 0 ≡ 0
-  is_zero k p low high e = sym (in_block file k p low (omega arith)) ∙ eqb-true _ 0 e
 
   -- the head
   head_byte_lem : (p : ℕ) → 4 ≤ p → p < 508 → head_byte (head_for layout) (stops_of layout) p ≡ get_or file (512 * 0 + p) 0
