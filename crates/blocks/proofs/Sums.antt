@@ -1,8 +1,11 @@
 -- Laws of the word sum.
-use Rattle.std.proofs.Common.{◌≡◌, ℕ, zero, suc, ◌+◌, ◌-◌, ◌*◌, ◌/◌, ◌%◌, ◌^◌, ◌<◌, ◌≤◌, ◌⊎◌, List, [], ◌∷◌, ◌++◌, length, get_or, take, drop, set, sym, refl, ap, ◌∙◌, inl, inr, ⊎_elim, add-zero, mod-eq_of_lt, arith}
+use Rattle.std.proofs.Common.{◌≡◌, ℕ, zero, suc, ◌+◌, ◌-◌, ◌*◌, ◌/◌, ◌%◌, ◌^◌, ◌<◌, ◌⊎◌, List, [], ◌∷◌, ◌++◌, map, length, get_or, take, drop, set, sym, refl, ap, ◌∙◌, inl, inr, ⊎_elim, add-zero, mod-eq_of_lt, arith}
 use Rattle.std.proofs.lemmas.Nat.{mod-mul-add, div-mul-add, shr-shr, div_below}
 use Rattle.std.proofs.lemmas.List.{ext_get_or, length-take-le, length-drop, get_or-drop, take-append-drop, length-set, get_or-set_same, get_or-set_other}
 use Rattle.std.proofs.lemmas.Bool.{cases_eq}
+use Rattle.std.specs.List.{fold}
+use Rattle.std.specs.Simd.{first_chunks}
+use Rattle.std.specs.Int.{from_be_bytes, w32}
 use Rattle.blocks.specs.Words.{words, word_sum, big_endian, last_word, closed}
 use Rattle.blocks.specs.Changes.{AllBytes, OnlyAt}
 
@@ -13,12 +16,21 @@ words_few (a ∷ b ∷ []) h = refl
 words_few (a ∷ b ∷ c ∷ []) h = refl
 words_few (a ∷ b ∷ c ∷ d ∷ bs) h = absurd (omega arith)
 
-pub words_four : (bs : List ℕ) → 4 ≤ length bs → words bs ≡ (get_or bs 0 0 * 16777216 + get_or bs 1 0 * 65536 + get_or bs 2 0 * 256 + get_or bs 3 0) + words (drop 4 bs)
-words_four [] h = absurd (omega arith)
-words_four (a ∷ []) h = absurd (omega arith)
-words_four (a ∷ b ∷ []) h = absurd (omega arith)
-words_four (a ∷ b ∷ c ∷ []) h = absurd (omega arith)
-words_four (a ∷ b ∷ c ∷ d ∷ bs) h = refl
+-- a word more, modulo 2^32
+abbrev pub added : ℕ → ℕ → ℕ
+added total word = (total + word) % 2 ^ 32
+
+-- the sum over the whole words of a block, from a total on
+pub sum_of_words : (k : ℕ) (bs : List ℕ) (total : ℕ) → length bs / 4 ≡ k → total < 2 ^ 32 → fold added total (map (from_be_bytes w32) (first_chunks 4 k bs)) ≡ (total + words bs) % 2 ^ 32
+sum_of_words zero bs t e h = let none = words_few bs (omega arith) in omega arith
+sum_of_words (suc k) [] t e h = absurd (omega arith)
+sum_of_words (suc k) (a ∷ []) t e h = absurd (omega arith)
+sum_of_words (suc k) (a ∷ b ∷ []) t e h = absurd (omega arith)
+sum_of_words (suc k) (a ∷ b ∷ c ∷ []) t e h = absurd (omega arith)
+sum_of_words (suc k) (a ∷ b ∷ c ∷ d ∷ bs) t e h =
+    let now = added t (from_be_bytes w32 (a ∷ b ∷ c ∷ d ∷ [])) in
+    let rest = sum_of_words k bs now (omega arith) (omega arith) in
+    omega arith
 
 -- what the byte at i counts for in its word
 abbrev pub weight : ℕ → ℕ

@@ -8,11 +8,9 @@ pub fn word_sum(block: &[u8]) -> u32
     ensures is { result ≡ word_sum block.now }
     ensures tells { OneByteTells block.now }
 {
-    let mut total: u32 = 0;
-    let mut left = block;
-    while let [a, b, c, d, rest @ ..] = left {
-        total = total.wrapping_add(u32::from_be_bytes([*a, *b, *c, *d]));
-        left = rest;
-    }
-    total
+    let (words, _) = block.as_chunks::<4>();
+    words
+        .iter()
+        .map(|word| u32::from_be_bytes(*word))
+        .fold(0, |total: u32, word| total.wrapping_add(word))
 }

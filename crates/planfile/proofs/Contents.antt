@@ -1,7 +1,8 @@
 -- What a file of the layout holds.
-use Rattle.std.proofs.Common.{◌≡◌, ℕ, zero, suc, ◌+◌, ◌-◌, ◌*◌, ◌/◌, ◌%◌, ◌<◌, ◌≤◌, true, false, ◌&&◌, ◌||◌, eqb, ltb, ◌⊎◌, List, length, get_or, drop, Some, sym, refl, ap, ◌∙◌, inl, inr, ⊎_elim, zero-add, arith}
-use Rattle.std.proofs.lemmas.Bool.{eq-eqb, eqb-true, ne_eqb, lt-ltb, le-ltb, ltb-true, le-leb, lt-leb, leb-true, and_parts, or_cases, both_ways, not-true, eqb-false, cond-true, cond-false, cases_eq, cases_lt}
+use Rattle.std.proofs.Common.{◌≡◌, ℕ, zero, suc, ◌+◌, ◌-◌, ◌*◌, ◌/◌, ◌%◌, ◌<◌, ◌≤◌, true, false, ◌&&◌, ◌||◌, eqb, ltb, ◌⊎◌, List, length, get_or, drop, Some, sym, refl, ap, ◌∙◌, ⊎_elim, zero-add, arith}
+use Rattle.std.proofs.lemmas.Bool.{eq-eqb, ne_eqb, lt-ltb, le-ltb, ltb-true, and_parts, or_cases, both_ways, cond-true, cond-false, cases_eq, cases_lt}
 use Rattle.std.proofs.lemmas.List.{length-take, length-take-le, length-drop, get_or_past}
+use Rattle.std.proofs.lemmas.Bool.Decides.{nat_tests}
 use Rattle.blocks.specs.Words.{adds_up}
 use Rattle.blocks.specs.Changes.{AllBytes}
 use Rattle.blocks.proofs.Sums.{one_byte}
@@ -19,15 +20,10 @@ use Rattle.planfile.proofs.Judgements.{few_stops}
 -- the ways to the stop at place i follow the head, and the keys follow the ways
 module _ (file : List ℕ) where
   pub content_ways : (i : ℕ) → i < get_or file 6 0 → content_at file (i + 1) ≡ Ways (stop_at file i)
-  content_ways i h =
-      let at : 7 + (i + 1) ≡ 8 + i = omega arith in
-      cond-false _ _ _ (ne_eqb (i + 1) 0 (λ e. omega arith)) ∙ cond-true _ _ _ (le-leb (i + 1) (get_or file 6 0) (omega arith)) ∙ ap (λ p. Ways (get_or file p 0)) at
+  content_ways i h = grind (arith, nat_tests)
 
   pub content_keys : (j : ℕ) → content_at file (get_or file 6 0 + 1 + j) ≡ Keys j
-  content_keys j =
-      let n = get_or file 6 0 in
-      let part : n + 1 + j - (n + 1) ≡ j = omega arith in
-      cond-false _ _ _ (ne_eqb (n + 1 + j) 0 (λ e. omega arith)) ∙ cond-false _ _ _ (lt-leb (n + 1 + j) n (omega arith)) ∙ ap Keys part
+  content_keys j = grind (arith, nat_tests)
 
   pub block_bytes : AllBytes file → (k : ℕ) → AllBytes (block_at file k)
   block_bytes all k p =
@@ -38,22 +34,13 @@ module _ (file : List ℕ) where
 -- the rules at the places that are in use
 module _ (head : Head) where
   pub at_stop : (body : List ℕ) (i : ℕ) → i < head.count → head_byte_fits head body (8 + i) ≡ stop_fits head body (8 + i)
-  at_stop body i h =
-      cond-false _ _ _ (le-ltb (8 + i) 6 (omega arith)) ∙ cond-false _ _ _ (le-ltb (8 + i) 7 (omega arith))
-      ∙ cond-false _ _ _ (le-ltb (8 + i) 8 (omega arith)) ∙ cond-true _ _ _ (lt-ltb (8 + i) (8 + head.count) (omega arith))
+  at_stop body i h = grind (arith, nat_tests)
 
   pub at_entries : (stop q byte : ℕ) → q < 128 → way_byte_fits head stop (8 + q) byte ≡ (entry_fits head stop (2 * q) (byte / 16) && entry_fits head stop (2 * q + 1) (byte % 16))
-  at_entries stop q byte h =
-      let same : 8 + q - 8 ≡ q = omega arith in
-      cond-false _ _ _ (le-ltb (8 + q) 5 (omega arith)) ∙ cond-false _ _ _ (le-ltb (8 + q) 8 (omega arith))
-      ∙ cond-true _ _ _ (lt-ltb (8 + q) 136 (omega arith))
-      ∙ ap (λ m. entry_fits head stop (2 * m) (byte / 16) && entry_fits head stop (2 * m + 1) (byte % 16)) same
+  at_entries stop q byte h = grind (arith, nat_tests)
 
   pub at_keys : (part q byte : ℕ) → q < 256 → key_byte_fits head part (8 + q) byte ≡ (eqb byte 0 || is_there head (128 * part + q / 2))
-  at_keys part q byte h =
-      let same : 8 + q - 8 ≡ q = omega arith in
-      cond-false _ _ _ (le-ltb (8 + q) 5 (omega arith)) ∙ cond-false _ _ _ (le-ltb (8 + q) 8 (omega arith))
-      ∙ cond-true _ _ _ (lt-ltb (8 + q) 264 (omega arith)) ∙ ap (λ m. eqb byte 0 || is_there head (128 * part + m / 2)) same
+  at_keys part q byte h = grind (arith, nat_tests)
 
 module _ (file : List ℕ) (f : PlanFile file) where
   abbrev n : ℕ
@@ -69,7 +56,7 @@ module _ (file : List ℕ) (f : PlanFile file) where
   head_byte_lem p low high = (f.blocks 0 (omega arith)).bytes p low high
 
   size : (b : ℕ) → size_fits b ≡ true → (1 ≤ b) × (b ≤ 16)
-  size b e = let p = and_parts _ _ e in (leb-true 1 b p.0, leb-true b 16 p.1)
+  size b e = grind (arith, nat_tests)
 
   stop_fits_lem : (i : ℕ) → i < n → stop_fits (file_head file) (drop 4 (block_at file 0)) (8 + i) ≡ true
   stop_fits_lem i h = let l = few in sym (at_stop (file_head file) (drop 4 (block_at file 0)) i h) ∙ head_byte_lem (8 + i) (omega arith) (omega arith)
@@ -117,12 +104,7 @@ module _ (file : List ℕ) (f : PlanFile file) where
       (cases_eq (t % 2) 0)
 
   told : (stop t e : ℕ) → entry_fits (file_head file) stop t e ≡ true → (e ≡ 15) ⊎ ((e < 4) × (on_floor (get_or file 4 0) (get_or file 5 0) t ≡ true) × (t ≡ stop → ⊥))
-  told stop t e h =
-      ⊎_elim (λ a. inl (eqb-true e 15 a))
-      (λ a. let p = and_parts _ _ a in
-      let q = and_parts _ _ p.1 in
-      inr (ltb-true e 4 p.0, q.0, eqb-false _ _ (not-true _ q.1)))
-      (or_cases _ _ h)
+  told stop t e h = grind (arith, nat_tests)
 
   -- a byte of a key, two to a segment
   pub key_fits : (j q : ℕ) → j < 8 → q < 256 → (eqb (get_or file (512 * (n + 1 + j) + (8 + q)) 0) 0 || is_there (file_head file) (128 * j + q / 2)) ≡ true
@@ -135,7 +117,7 @@ module _ (file : List ℕ) (f : PlanFile file) where
       ∙ ap (λ x. byte_fits (file_head file) x body (8 + q)) (sym (content_keys file j)) ∙ rule
 
   missing : (j q : ℕ) → j < 8 → q < 256 → is_there (file_head file) (128 * j + q / 2) ≡ false → get_or file (512 * (n + 1 + j) + (8 + q)) 0 ≡ 0
-  missing j q h l e = ⊎_elim (λ a. eqb-true _ 0 a) (λ a. absurd (both_ways _ e a)) (or_cases _ _ (key_fits j q h l))
+  missing j q h l e = let h = key_fits j q h l in grind (arith, nat_tests)
 
   keys : (s : ℕ) → is_there (file_head file) s ≡ false → key_in file s ≡ 0
   keys s e =

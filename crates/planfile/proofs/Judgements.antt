@@ -1,6 +1,7 @@
 -- A file that is not refused is of the layout, and one of the layout is not refused.
-use Rattle.std.proofs.Common.{◌≡◌, ℕ, zero, suc, ◌+◌, ◌-◌, ◌*◌, ◌%◌, ◌<◌, ◌≤◌, Bool, true, false, leb, ◌⊎◌, List, length, get_or, drop, Some, None, Option, sym, refl, ap, ◌∙◌, subst, inl, inr, ⊎_elim, arith}
-use Rattle.std.proofs.lemmas.Bool.{eq-eqb, eqb-true, eqb-false, le-leb, leb-true, and_from, both_ways, cases_eq, cases_lt}
+use Rattle.std.proofs.Common.{◌≡◌, ℕ, zero, suc, ◌+◌, ◌-◌, ◌*◌, ◌<◌, ◌≤◌, Bool, true, false, ◌⊎◌, List, length, get_or, drop, Some, None, Option, sym, refl, ap, ◌∙◌, subst, inl, inr, ⊎_elim, arith}
+use Rattle.std.proofs.lemmas.Bool.{eq-eqb, eqb-true, eqb-false, both_ways, cases_eq, cases_lt}
+use Rattle.std.proofs.lemmas.Bool.Decides.{nat_tests}
 use Rattle.blocks.specs.Words.{adds_up}
 use Rattle.planfile.specs.declared.block.Head.{Head}
 use Rattle.planfile.specs.declared.block.Content.{Content}
@@ -38,9 +39,7 @@ module _ (head : Head) (content : Content) (number : ℕ) (block : List ℕ) whe
 
 module _ (file : List ℕ) where
   pub long_fits : (n : ℕ) → n ≤ 64 → length file ≡ 512 * (n + 9) → length_fits (length file) ≡ true
-  long_fits n few e =
-      let whole : length file % 512 ≡ 0 = omega arith in
-      and_from _ _ (eq-eqb _ _ whole) (and_from _ _ (le-leb 4608 (length file) (omega arith)) (le-leb (length file) 37376 (omega arith)))
+  long_fits n few e = grind (arith, nat_tests)
 
   -- the blocks from k on are good
   from_good : (m k : ℕ) → ((j : ℕ) → k ≤ j → j < k + m → refusal_at file j ≡ None) → first_from file m k ≡ None
@@ -70,7 +69,7 @@ module _ (file : List ℕ) where
 
   -- byte 6 of the head block is the number of stops
   pub few_stops : GoodAt file 0 → get_or file 6 0 ≤ 64
-  few_stops g = leb-true _ _ (ap (λ b. leb b 64) (sym (in_block file 0 6 (omega arith) (omega arith))) ∙ g.bytes 6 (omega arith) (omega arith))
+  few_stops g = let b = g.bytes 6 (omega arith) (omega arith) in let at = in_block file 0 6 (omega arith) (omega arith) in grind (arith, nat_tests)
 
   pub plan_not_refused : PlanFile file → read_outcome file ≡ None
   plan_not_refused f =

@@ -1,5 +1,4 @@
 pub mod Places
-pub mod Fills
 pub mod Copies
 pub mod Verdicts
 pub mod Searches

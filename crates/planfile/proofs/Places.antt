@@ -1,30 +1,12 @@
 -- A test at places one after another.
-use Rattle.std.proofs.Common.{◌≡◌, ℕ, zero, suc, ◌+◌, ◌-◌, ◌<◌, ◌≤◌, Bool, true, false, ◌&&◌, sym, refl, ap, ◌∙◌, inl, inr, add-zero, arith}
+use Rattle.std.proofs.Common.{◌≡◌, ℕ, zero, suc, ◌+◌, ◌<◌, length, Bool, true, false, ◌&&◌, sym, refl, ap, ◌∙◌, inl, inr, add-zero, arith}
+use Rattle.std.proofs.lemmas.List.FromFn.{length-range_with_len, get_or-range_with_len}
 use Rattle.std.proofs.lemmas.Bool.{and_parts, and_from, both_ways, cases_Bool}
+use Rattle.std.specs.Bool.{MatchBool}
+use Rattle.std.specs.List.{AllWithin, HoldsAt, range_with_len}
 use Rattle.planfile.specs.Layouts.{all_from}
 
 module _ (test : ℕ → Bool) where
-  step : (m p : ℕ) → 0 < m → all_from test m p ≡ (test p && all_from test (m - 1) (p + 1))
-  unfolding all_from
-  step zero p h = absurd (omega arith)
-  step (suc m) p h = let e : m ≡ suc m - 1 = omega arith in ap (λ j. test p && all_from test j (p + 1)) e
-
-  none : (p : ℕ) → all_from test 0 p ≡ true
-  unfolding all_from
-  none p = refl
-
-  -- from place p on to the place before e
-  pub all_more : (e p : ℕ) → p < e → test p ≡ true → all_from test (e - p) p ≡ all_from test (e - (p + 1)) (p + 1)
-  all_more e p h t =
-      let less : e - p - 1 ≡ e - (p + 1) = omega arith in
-      step (e - p) p (omega arith) ∙ ap (λ b. b && all_from test (e - p - 1) (p + 1)) t ∙ ap (λ j. all_from test j (p + 1)) less
-
-  pub all_stops : (e p : ℕ) → p < e → test p ≡ false → all_from test (e - p) p ≡ false
-  all_stops e p h t = step (e - p) p (omega arith) ∙ ap (λ b. b && all_from test (e - p - 1) (p + 1)) t
-
-  pub all_none : (e p : ℕ) → e ≤ p → all_from test (e - p) p ≡ true
-  all_none e p h = let done : e - p ≡ 0 = omega arith in ap (λ j. all_from test j p) done ∙ none p
-
   pub each_of_all : (m p k : ℕ) → all_from test m p ≡ true → k < m → test (p + k) ≡ true
   unfolding all_from
   each_of_all zero p k a h = absurd (omega arith)
@@ -51,4 +33,17 @@ module _ (test : ℕ → Bool) where
             let rest = one_fails m (p + 1) (ap (λ b. b && all_from test m (p + 1)) (sym so) ∙ a) in
             let same : p + (rest.0 + 1) ≡ p + 1 + rest.0 = omega arith in
             (rest.0 + 1, omega (arith, rest.1), ap test same ∙ rest.2)
+      ]
+
+  -- a test of the places from p on, by std's words
+  pub tested : (m p : ℕ) (r : Bool)
+      → MatchBool r (AllWithin (λ k. test k ≡ true) (range_with_len p m) 0 (length (range_with_len p m))) ((k : ℕ) × (k < length (range_with_len p m)) × HoldsAt (λ k. test k ≡ false) (range_with_len p m) k)
+      → r ≡ all_from test m p
+  tested m p true each = sym (all_of_each m p (λ k h. let long = length-range_with_len p m in ap test (sym (get_or-range_with_len p m k 0 h)) ∙ each k 0 (omega arith) (omega arith)))
+  tested m p false (k, within, fails) =
+      elim (cases_Bool (all_from test m p)) [
+        | inr fail ↦ sym fail
+        | inl so ↦
+            let h : k < m = omega (arith, within, length-range_with_len p m) in
+            absurd (both_ways (test (p + k)) (ap test (sym (get_or-range_with_len p m k 0 h)) ∙ fails 0) (each_of_all m p k so h))
       ]

@@ -1,6 +1,7 @@
 -- A search for a table among the stops of a file.
-use Rattle.std.proofs.Common.{◌≡◌, ℕ, zero, suc, ◌+◌, ◌-◌, ◌<◌, ◌≤◌, cond, eqb, List, Some, None, refl, ap, ◌∙◌, arith}
+use Rattle.std.proofs.Common.{◌≡◌, ℕ, zero, suc, ◌+◌, ◌-◌, ◌<◌, ◌≤◌, cond, eqb, List, Some, None, Option, sym, refl, ap, ◌∙◌, arith}
 use Rattle.std.proofs.lemmas.Bool.{eq-eqb, ne_eqb}
+use Rattle.std.specs.Option.{MatchOption}
 use Rattle.planfile.specs.Plans.{stop_at, seek}
 
 module _ (file : List ℕ) (table : ℕ) where
@@ -39,3 +40,10 @@ module _ (file : List ℕ) (table : ℕ) where
 
   pub seek_fails : (n : ℕ) → ((k : ℕ) → k < n → stop_at file k ≡ table → ⊥) → seek file table n 0 ≡ None
   seek_fails n others = past n n (omega arith) others ∙ seek_none n n (omega arith)
+
+  -- the first stop that is the table, or none
+  pub searched : (n end : ℕ) (r : Option ℕ) → end ≡ n
+      → MatchOption r ((k : ℕ) → 0 ≤ k → k < end → stop_at file k ≡ table → ⊥) (λ i. (0 ≤ i) × (i < end) × (stop_at file i ≡ table) × ((k : ℕ) → 0 ≤ k → k < i → stop_at file k ≡ table → ⊥))
+      → r ≡ seek file table n 0
+  searched n end None e none = sym (seek_fails n (λ k h. none k (omega arith) (omega arith)))
+  searched n end (Some i) e here = sym (seek_finds n i (omega (arith, here.1)) here.2 (λ k h. here.3 k (omega arith) h))

@@ -1,30 +1,20 @@
 -- What is refused of a block, by its sum, its first four bytes and its body.
-use Rattle.std.proofs.Common.{◌≡◌, ℕ, zero, suc, ◌+◌, ◌-◌, ◌*◌, ◌<◌, ◌≤◌, Bool, true, eqb, List, length, get_or, Some, None, Option, sym, refl, ap, ◌∙◌, add-zero, arith}
-use Rattle.std.proofs.lemmas.Bool.{eq-eqb, and_from, and_parts, eqb-true}
+use Rattle.std.proofs.Common.{◌≡◌, ℕ, zero, suc, ◌+◌, ◌-◌, ◌*◌, ◌<◌, ◌≤◌, Bool, true, eqb, List, length, get_or, take, drop, Some, None, Option, sym, refl, ap, ◌∙◌, add-zero, arith}
+use Rattle.std.proofs.lemmas.Bool.{eq-eqb}
+use Rattle.std.proofs.lemmas.Bool.Decides.{nat_tests}
 use Rattle.planfile.specs.declared.block.Content.{Content}
 use Rattle.planfile.specs.declared.refusal.Refusal.{Refusal}
 use Rattle.planfile.specs.Promises.{Front}
-use Rattle.planfile.specs.Outcomes.{front_fits, judged, refusal_at, first_of, first_from, unless_long, length_fits, read_outcome}
+use Rattle.planfile.specs.Outcomes.{front_fits, judged, block_refusal, file_head, block_at, content_at, refusal_at, first_of, first_from, unless_long, length_fits, read_outcome}
 
 pub front_fits_lem : (number : ℕ) (content : Content) (block : List ℕ) → Front number content block → front_fits number content block ≡ true
-front_fits_lem number content block f =
-    and_from _ _ (eq-eqb _ _ f.kind) (and_from _ _ (eq-eqb _ _ f.place) (and_from _ _ (eq-eqb _ _ f.third) (eq-eqb _ _ f.fourth)))
+front_fits_lem number content block f = grind (arith, nat_tests)
 
 pub front_of : (number : ℕ) (content : Content) (block : List ℕ) → front_fits number content block ≡ true → Front number content block
-front_of number content block e =
-    let p = and_parts _ _ e in
-    let q = and_parts _ _ p.1 in
-    let r = and_parts _ _ q.1 in
-    record {
-      kind = eqb-true _ _ p.0;
-      place = eqb-true _ _ q.0;
-      third = eqb-true _ _ r.0;
-      fourth = eqb-true _ _ r.1;
-    }
+front_of number content block e = grind (arith, nat_tests)
 
 pub judged_as : (n : ℕ) {sum front body sum' front' body' : Bool} → sum ≡ sum' → front ≡ front' → body ≡ body' → judged n sum front body ≡ judged n sum' front' body'
-judged_as n {sum} {front} {body} {sum'} {front'} {body'} p q r =
-    ap (λ s. judged n s front body) p ∙ ap (λ f. judged n sum' f body) q ∙ ap (judged n sum' front') r
+judged_as n {sum} {front} {body} {sum'} {front'} {body'} p q r = cc
 
 pub none_some : {X : Type 0} (o : Option X) (x : X) → o ≡ None → o ≡ Some x → ⊥
 none_some o x p q = let z : ◌≡◌ {A = ℕ} 0 1 = cc in omega arith
@@ -45,6 +35,15 @@ module _ (file : List ℕ) where
   nothing : (k : ℕ) → first_from file 0 k ≡ None
   unfolding first_from
   nothing k = refl
+
+  -- block k in a part that is cut from the file
+  pub part_refusal : (k at : ℕ) (content : Content) (o : Option Refusal) → at ≡ 512 * k → content ≡ content_at file k
+      → block_refusal (file_head file) content k (take (at + 512 - at) (drop at file)) ≡ o → refusal_at file k ≡ o
+  part_refusal k at content o e f judged =
+      let size : at + 512 - at ≡ 512 = omega arith in
+      ap (λ x. block_refusal (file_head file) x k (block_at file k)) (sym f)
+      ∙ ap (λ p. block_refusal (file_head file) content k (take 512 (drop p file))) (sym e)
+      ∙ ap (λ n. block_refusal (file_head file) content k (take n (drop at file))) (sym size) ∙ judged
 
   -- from block k on to the block before e
   pub from_more : (e k : ℕ) → k < e → refusal_at file k ≡ None → first_from file (e - k) k ≡ first_from file (e - (k + 1)) (k + 1)

@@ -1,7 +1,7 @@
 ghost use Rattle.std.specs.Prelude.{◌≡◌, length, Some, None, MatchResult};
 ghost use Rattle.planfile.specs.Outcomes.{block_refusal, kind_of};
 
-use crate::bytes::body_fits;
+use crate::bytes::Body;
 use crate::refusal::Refusal;
 use blocks::sum::word_sum;
 
@@ -26,6 +26,7 @@ impl Content {
     pub fn kind(self) -> u8
         ensures { result ≡ kind_of self }
     {
+        // the format's byte, by a match: variants that hold something have no number of their own
         match self {
             Content::Stops => 1,
             Content::Ways { .. } => 2,
@@ -50,10 +51,11 @@ pub(crate) fn read_block(
     if word_sum(block) != 0xFFFF_FFFF {
         return Err(Refusal::BadSum { block: number });
     }
-    if *kind != content.kind() || *found != number || *zero_a != 0 || *zero_b != 0 {
+    if [*kind, *found, *zero_a, *zero_b] != [content.kind(), number, 0, 0] {
         return Err(Refusal::BadFront { block: number });
     }
-    if !body_fits(head, content, body) {
+    let body = Body { head, bytes: body };
+    if !body.fits(content) {
         return Err(Refusal::BadContent { block: number });
     }
     Ok(())

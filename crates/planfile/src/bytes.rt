@@ -1,115 +1,118 @@
 // The tests of a block's bytes, each by its place in the block.
-ghost use Rattle.std.specs.Prelude.{◌≡◌, ◌+◌, ◌<◌, ◌≤◌, length};
+ghost use Rattle.std.specs.Prelude.{◌≡◌, ◌≤◌};
 ghost use Rattle.map.specs.Floors.{on_floor};
-ghost use Rattle.planfile.specs.Layouts.{is_there, stop_fits, head_byte_fits, entry_fits, way_byte_fits, key_byte_fits, byte_fits, body_fits};
+ghost use Rattle.planfile.specs.Layouts.{in_body, is_there, stop_fits, head_byte_fits, entry_fits, way_byte_fits, key_byte_fits, byte_fits, body_fits};
 
 use crate::block::{Content, Head};
+use crate::look::byte;
+use map::side::Side;
 
-fn on_floor(head: Head, table: u8) -> bool
-    ensures { result ≡ on_floor head.width head.height table }
-{
-    table % 16 < head.width && table / 16 < head.height
+/// What follows a block's first four bytes, and the head of its file. Places count from the start
+/// of the block.
+#[derive(Clone, Copy)]
+pub(crate) struct Body<'a> {
+    pub(crate) head: Head,
+    pub(crate) bytes: &'a [u8],
 }
 
-fn is_there(head: Head, segment: u16) -> bool
-    ensures { result ≡ is_there head segment }
-{
-    if segment >= 1024 {
-        return false;
+// A head is judged here for the first time, so its bytes are no `Size` of the map yet.
+impl Head {
+    fn on_floor(self, table: u8) -> bool
+        ensures { result ≡ on_floor self.width self.height table }
+    {
+        table % 16 < self.width && table / 16 < self.height
     }
-    let table = (segment / 4) as u8;
-    if !on_floor(head, table) {
-        return false;
-    }
-    match segment % 4 {
-        0 => table / 16 > 0,
-        1 => table % 16 + 1 < head.width,
-        2 => table / 16 + 1 < head.height,
-        _ => table % 16 > 0,
-    }
-}
 
-fn stop_fits(head: Head, body: &[u8], place: usize) -> bool
-    requires { (8 ≤ place) × ((place < 508) × (length body.now ≡ 508)) }
-    ensures { result ≡ stop_fits head body.now place }
-{
-    let stop = body[place - 4];
-    on_floor(head, stop) && (place == 8 || body[place - 1 - 4] < stop)
-}
-
-fn head_byte_fits(head: Head, body: &[u8], place: usize) -> bool
-    requires { (4 ≤ place) × ((place < 508) × (length body.now ≡ 508)) }
-    ensures { result ≡ head_byte_fits head body.now place }
-{
-    let byte = body[place - 4];
-    if place < 6 {
-        byte >= 1 && byte <= 16
-    } else if place < 7 {
-        byte <= 64
-    } else if place < 8 {
-        byte == 0
-    } else if place < 8 + head.count as usize {
-        stop_fits(head, body, place)
-    } else {
-        byte == 0
-    }
-}
-
-fn entry_fits(head: Head, stop: u8, table: u8, entry: u8) -> bool
-    ensures { result ≡ entry_fits head stop table entry }
-{
-    entry == 15 || (entry < 4 && on_floor(head, table) && table != stop)
-}
-
-fn way_byte_fits(head: Head, stop: u8, place: usize, byte: u8) -> bool
-    ensures { result ≡ way_byte_fits head stop place byte }
-{
-    if place < 5 {
-        byte == stop
-    } else if place < 8 {
-        byte == 0
-    } else if place < 136 {
-        let table = (2 * (place - 8)) as u8;
-        entry_fits(head, stop, table, byte / 16) && entry_fits(head, stop, table + 1, byte % 16)
-    } else {
-        byte == 0
-    }
-}
-
-fn key_byte_fits(head: Head, part: u8, place: usize, byte: u8) -> bool
-    ensures { result ≡ key_byte_fits head part place byte }
-{
-    if place < 5 {
-        byte == part
-    } else if place < 8 {
-        byte == 0
-    } else if place < 264 {
-        byte == 0 || is_there(head, 128 * part as u16 + ((place - 8) / 2) as u16)
-    } else {
-        byte == 0
-    }
-}
-
-fn byte_fits(head: Head, content: Content, body: &[u8], place: usize) -> bool
-    requires { (4 ≤ place) × ((place < 508) × (length body.now ≡ 508)) }
-    ensures { result ≡ byte_fits head content body.now place }
-{
-    match content {
-        Content::Stops => head_byte_fits(head, body, place),
-        Content::Ways { stop } => way_byte_fits(head, stop, place, body[place - 4]),
-        Content::Keys { part } => key_byte_fits(head, part, place, body[place - 4]),
-    }
-}
-
-/// Whether each byte behind a block's first four, but for the last word, is as the layout says.
-pub(crate) fn body_fits(head: Head, content: Content, body: &[u8]) -> bool
-    requires { length body.now ≡ 508 }
-    ensures { result ≡ body_fits head content body.now }
-{
-    for place in 4..508 {
-        if !byte_fits(head, content, body, place) {
+    fn is_there(self, segment: u16) -> bool
+        ensures { result ≡ is_there self segment }
+    {
+        let Ok(table) = u8::try_from(segment / 4) else {
             return false;
+        };
+        self.on_floor(table)
+            && match Side::of_segment(segment) {
+                Side::North => table / 16 > 0,
+                Side::East => table % 16 + 1 < self.width,
+                Side::South => table / 16 + 1 < self.height,
+                Side::West => table % 16 > 0,
+            }
+    }
+
+    fn entry_fits(self, stop: u8, table: u8, entry: u8) -> bool
+        ensures { result ≡ entry_fits self stop table entry }
+    {
+        entry == 15 || (entry < 4 && self.on_floor(table) && table != stop)
+    }
+
+    fn way_byte_fits(self, stop: u8, place: usize, byte: u8) -> bool
+        ensures { result ≡ way_byte_fits self stop place byte }
+    {
+        match place {
+            0..=4 => byte == stop,
+            8..=135 => {
+                let table = (2 * (place - 8)) as u8;
+                self.entry_fits(stop, table, byte / 16)
+                    && self.entry_fits(stop, table + 1, byte % 16)
+            }
+            _ => byte == 0,
         }
     }
-    true
+
+    fn key_byte_fits(self, part: u8, place: usize, byte: u8) -> bool
+        ensures { result ≡ key_byte_fits self part place byte }
+    {
+        match place {
+            0..=4 => byte == part,
+            8..=263 => {
+                byte == 0 || self.is_there(128 * u16::from(part) + ((place - 8) / 2) as u16)
+            }
+            _ => byte == 0,
+        }
+    }
+}
+
+impl Body<'_> {
+    /// The byte at a place, and 0 behind the end.
+    fn byte(&self, place: usize) -> u8
+        ensures { result ≡ in_body self.now.bytes.now place }
+    {
+        byte(self.bytes, place.saturating_sub(4))
+    }
+
+    fn stop_fits(&self, place: usize) -> bool
+        requires { 8 ≤ place }
+        ensures { result ≡ stop_fits self.now.head self.now.bytes.now place }
+    {
+        let stop = self.byte(place);
+        self.head.on_floor(stop) && (place == 8 || self.byte(place - 1) < stop)
+    }
+
+    fn head_byte_fits(&self, place: usize) -> bool
+        ensures { result ≡ head_byte_fits self.now.head self.now.bytes.now place }
+    {
+        let byte = self.byte(place);
+        match place {
+            0..=5 => (1..=16).contains(&byte),
+            6 => byte <= 64,
+            8.. if place < 8 + usize::from(self.head.count) => self.stop_fits(place),
+            _ => byte == 0,
+        }
+    }
+
+    fn byte_fits(&self, content: Content, place: usize) -> bool
+        ensures { result ≡ byte_fits self.now.head content self.now.bytes.now place }
+    {
+        match content {
+            Content::Stops => self.head_byte_fits(place),
+            Content::Ways { stop } => self.head.way_byte_fits(stop, place, self.byte(place)),
+            Content::Keys { part } => self.head.key_byte_fits(part, place, self.byte(place)),
+        }
+    }
+
+    /// Whether each byte behind a block's first four, but for the last word, is as the layout says.
+    pub(crate) fn fits(&self, content: Content) -> bool
+        ensures { result ≡ body_fits self.now.head content self.now.bytes.now }
+    {
+        (4..508).all(|place| self.byte_fits(content, place))
+    }
 }

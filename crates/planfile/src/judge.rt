@@ -7,7 +7,7 @@ use crate::refusal::Refusal;
 fn length_fits(length: usize) -> bool
     ensures { result ≡ length_fits length }
 {
-    length % 512 == 0 && length >= 4608 && length <= 37376
+    length % 512 == 0 && (4608..=37_376).contains(&length)
 }
 
 /// What a block behind the head is to hold.
@@ -18,7 +18,7 @@ fn content_at(file: &[u8], number: u8) -> Content
     let count = file[6];
     if number <= count {
         Content::Ways {
-            stop: file[7 + number as usize],
+            stop: file[7 + usize::from(number)],
         }
     } else {
         Content::Keys {
@@ -40,13 +40,12 @@ pub(crate) fn judge(file: &[u8]) -> Result<(), Refusal>
         count: file[6],
     };
     read_block(&file[0..512], 0, head, Content::Stops)?;
-    let blocks = head.count as usize + 9;
-    if file.len() != 512 * blocks {
+    if file.len() != 512 * (usize::from(head.count) + 9) {
         return Err(Refusal::BadLength);
     }
-    for k in 1..blocks {
-        let at = 512 * k;
-        let number = k as u8;
+    // each block is judged in place, in a part cut from the middle of the file
+    for number in 1..head.count + 9 {
+        let at = 512 * usize::from(number);
         read_block(&file[at..at + 512], number, head, content_at(file, number))?;
     }
     Ok(())

@@ -2,7 +2,6 @@ ghost use Rattle.std.specs.Prelude.{◌≡◌, ◌≤◌, length};
 ghost use Rattle.planfile.specs.Plans.{key_in, way_in};
 ghost use Rattle.planfile.specs.Copies.{SamePlan, copy_of};
 
-use crate::look::byte;
 use crate::plan::WrittenPlan;
 use map::side::Side;
 use orders::ranker::Ranker;
@@ -12,6 +11,7 @@ use ways::finder::WayFinder;
 /// caller's bytes.
 #[derive(Clone, Copy)]
 pub struct KeptPlan {
+    // as many as any file has, since the library never allocates
     bytes: [u8; 37_376],
 }
 
@@ -21,9 +21,8 @@ fn copied(file: &[u8]) -> [u8; 37_376]
     ensures same { length file.now ≤ 37376 → SamePlan file.now result }
 {
     let mut bytes = [0; 37_376];
-    for place in 0..37_376usize {
-        bytes[place] = byte(file, place);
-    }
+    let count = file.len().min(37_376);
+    bytes[..count].copy_from_slice(&file[..count]);
     bytes
 }
 

@@ -1,5 +1,5 @@
 // Looking things up in the bytes of a file, whatever they are.
-ghost use Rattle.std.specs.Prelude.{◌≡◌, ◌≤◌, IfSome, slice_index};
+ghost use Rattle.std.specs.Prelude.{◌≡◌, slice_index};
 ghost use Rattle.planfile.specs.Plans.{entry_at, entry_way, place_of};
 
 use map::side::Side;
@@ -8,28 +8,24 @@ use map::side::Side;
 pub(crate) fn byte(file: &[u8], place: usize) -> u8
     ensures { result ≡ slice_index file.now place }
 {
-    if place < file.len() { file[place] } else { 0 }
+    file.get(place).copied().unwrap_or(0)
 }
 
 /// The place of the table among the stops.
-pub(crate) fn place_of(file: &[u8], table: u8) -> Option<usize>
-    ensures is { result ≡ place_of file.now table }
-    ensures small { IfSome result (λ i. i ≤ 255) }
+pub(crate) fn place_of(file: &[u8], table: u8) -> Option<u8>
+    ensures { result ≡ place_of file.now table }
 {
-    for i in 0..byte(file, 6) as usize {
-        if byte(file, 8 + i) == table {
-            return Some(i);
-        }
-    }
-    None
+    (0..byte(file, 6)).find(|&i| byte(file, 8 + usize::from(i)) == table)
 }
 
 /// The entry for a table, in the block of the ways to the stop at a place.
-pub(crate) fn entry_at(file: &[u8], i: usize, table: u8) -> u8
-    requires { i ≤ 255 }
+pub(crate) fn entry_at(file: &[u8], i: u8, table: u8) -> u8
     ensures { result ≡ entry_at file.now i table }
 {
-    let both = byte(file, 512 * (i + 1) + 8 + (table / 2) as usize);
+    let both = byte(
+        file,
+        512 * (usize::from(i) + 1) + 8 + usize::from(table / 2),
+    );
     if table % 2 == 0 { both / 16 } else { both % 16 }
 }
 
@@ -37,11 +33,6 @@ pub(crate) fn entry_at(file: &[u8], i: usize, table: u8) -> u8
 pub(crate) fn entry_way(entry: u8) -> Option<(Side, u32)>
     ensures { result ≡ entry_way entry }
 {
-    match entry {
-        0 => Some((Side::North, 0)),
-        1 => Some((Side::East, 0)),
-        2 => Some((Side::South, 0)),
-        3 => Some((Side::West, 0)),
-        _ => None,
-    }
+    let side = Side::try_from(entry).ok()?;
+    Some((side, 0))
 }

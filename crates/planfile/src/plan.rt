@@ -52,11 +52,7 @@ impl<'a> WrittenPlan<'a> {
     pub fn stop(&self, i: u8) -> Option<u8>
         ensures { result ≡ stop_in self.now.file.now i }
     {
-        if i < byte(self.file, 6) {
-            Some(byte(self.file, 8 + i as usize))
-        } else {
-            None
-        }
+        (i < byte(self.file, 6)).then(|| byte(self.file, 8 + usize::from(i)))
     }
 }
 
@@ -71,10 +67,8 @@ impl<'a> WayFinder for WrittenPlan<'a> {
     }
 
     fn way(&self, table: u8, destination: u8, note: u32) -> Option<(Side, u32)> {
-        match place_of(self.file, destination) {
-            None => None,
-            Some(i) => entry_way(entry_at(self.file, i, table)),
-        }
+        let i = place_of(self.file, destination)?;
+        entry_way(entry_at(self.file, i, table))
     }
 }
 
@@ -88,8 +82,8 @@ impl<'a> Ranker for WrittenPlan<'a> {
         if segment >= 1024 {
             return 0;
         }
-        let block = byte(self.file, 6) as usize + 1 + (segment / 128) as usize;
-        let at = 512 * block + 8 + 2 * (segment % 128) as usize;
+        let block = usize::from(byte(self.file, 6)) + 1 + usize::from(segment / 128);
+        let at = 512 * block + 8 + 2 * usize::from(segment % 128);
         u16::from_be_bytes([byte(self.file, at), byte(self.file, at + 1)])
     }
 }

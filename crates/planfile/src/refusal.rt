@@ -17,6 +17,7 @@ impl Refusal {
     pub fn number(self) -> u8
         ensures { result ≡ refusal_number self }
     {
+        // by a match: variants that hold a block have no number of their own
         match self {
             Refusal::BadLength => 9,
             Refusal::BadSum { .. } => 10,
@@ -33,11 +34,10 @@ impl Refusal {
     {
         match self {
             Refusal::BadLength => Some(0),
-            Refusal::BadSum { block } => Some(block),
-            Refusal::BadFront { block } => Some(block),
-            Refusal::BadContent { block } => Some(block),
-            Refusal::ShortBuffer => None,
-            Refusal::WrongKeys => None,
+            Refusal::BadSum { block }
+            | Refusal::BadFront { block }
+            | Refusal::BadContent { block } => Some(block),
+            Refusal::ShortBuffer | Refusal::WrongKeys => None,
         }
     }
 }

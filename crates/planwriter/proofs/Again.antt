@@ -1,6 +1,6 @@
 -- A plan is written again with its own keys.
-use Rattle.std.proofs.Common.{◌≡◌, ℕ, ◌<◌, ◌≤◌, List, ◌++◌, length, get_or, drop, IfOk, Ok, Err, Result, refl, ap, ◌∙◌, subst, zero-add, arith, MatchResult}
-use Rattle.std.proofs.lemmas.List.FromFn.{fill_by_all, length-map-range_with_len, get_or-map-range_with_len}
+use Rattle.std.proofs.Common.{◌≡◌, ℕ, ◌<◌, List, ◌++◌, length, get_or, drop, IfOk, Ok, Err, Result, refl, ap, ◌∙◌, subst, zero-add, MatchResult}
+use Rattle.std.proofs.lemmas.List.FromFn.{length-map-range_with_len, get_or-map-range_with_len}
 use Rattle.map.specs.Layouts.{Layout}
 use Rattle.blocks.specs.Changes.{AllBytes}
 use Rattle.planfile.specs.declared.refusal.Refusal.{Refusal}
@@ -8,10 +8,6 @@ use Rattle.planfile.specs.Plans.{way_in, key_in}
 use Rattle.planfile.specs.Promises.{PlanFile}
 use Rattle.planwriter.specs.Files.{file_of, source_of, write_outcome}
 use Rattle.planwriter.specs.Promises.{WrittenAgain, keys_in, SameFloor}
-
-pub keys_are : (file keys : List ℕ) (s : ℕ) → length keys ≡ 1024 → 1024 ≤ s → ((k : ℕ) → k < s → get_or keys k 0 ≡ key_in file k) → keys ≡ keys_in file
-unfolding keys_in
-keys_are file keys s long h each = fill_by_all (key_in file) keys 1024 0 long (λ k l. each k (omega arith))
 
 keys_long : (file : List ℕ) → length (keys_in file) ≡ 1024
 unfolding keys_in

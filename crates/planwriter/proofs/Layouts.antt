@@ -1,9 +1,10 @@
 -- A written file is of the layout.
-use Rattle.std.proofs.Common.{◌≡◌, ℕ, ◌+◌, ◌-◌, ◌*◌, ◌/◌, ◌%◌, ◌<◌, ◌≤◌, Bool, true, false, cond, eqb, List, map, length, get_or, drop, sym, refl, ap, ◌∙◌, subst, ⊎_elim, arith}
+use Rattle.std.proofs.Common.{◌≡◌, ℕ, ◌+◌, ◌-◌, ◌*◌, ◌/◌, ◌%◌, ◌<◌, ◌≤◌, true, eqb, List, map, length, get_or, drop, sym, ap, ◌∙◌, subst, ⊎_elim, arith}
 use Rattle.std.proofs.lemmas.Nat.{div-mul-add, mod-mul-add}
 use Rattle.std.proofs.lemmas.List.FromFn.{length-map-range_with_len}
 use Rattle.std.proofs.lemmas.List.{get_or-drop, get_or_past}
-use Rattle.std.proofs.lemmas.Bool.{cases_Bool, cases_eq, cases_lt, eq-eqb, lt-ltb, le-ltb, le-leb, cond-true, cond-false, and_from, or_left, or_right}
+use Rattle.std.proofs.lemmas.Bool.{cases_Bool, cases_eq, eq-eqb, lt-ltb, and_from, or_left, or_right}
+use Rattle.std.proofs.lemmas.Bool.Decides.{nat_tests}
 use Rattle.std.specs.List.{range_with_len}
 use Rattle.map.specs.Floors.{on_floor}
 use Rattle.blocks.specs.Words.{word_sum}
@@ -11,10 +12,11 @@ use Rattle.blocks.proofs.Sums.{sum_closed}
 use Rattle.planfile.specs.declared.block.Head.{Head}
 use Rattle.planfile.specs.declared.block.Content.{Content}
 use Rattle.planfile.specs.declared.block.Content.TheVariants.{Stops, Ways, Keys}
-use Rattle.planfile.specs.Layouts.{in_body, size_fits, stop_fits, head_byte_fits, entry_fits, way_byte_fits, is_there, key_byte_fits, byte_fits}
+use Rattle.planfile.specs.Layouts.{in_body, stop_fits, head_byte_fits, entry_fits, way_byte_fits, is_there, key_byte_fits, byte_fits}
 use Rattle.planfile.specs.Outcomes.{block_at, content_at}
 use Rattle.planfile.specs.Promises.{GoodBlock, PlanFile}
 use Rattle.planwriter.specs.Files.{Source, head_byte, way_byte, key_half, key_byte, content_byte, block_byte, block_of, content_of, file_of}
+use Rattle.planwriter.proofs.Regions.{written_fits, head_written_fits}
 use Rattle.planwriter.proofs.Pieces.{blocks_long}
 use Rattle.planwriter.proofs.Sources.{Sound}
 use Rattle.planwriter.proofs.Spots.{block_byte_lem, content_byte_lem, block_is, stop_byte, count_is, head_is, content_is}
@@ -25,9 +27,6 @@ block_adds source content number = sum_closed (map (block_byte source content nu
 
 zero_fits : (b : ℕ) → b ≡ 0 → eqb b 0 ≡ true
 zero_fits b e = eq-eqb b 0 e
-
-size_fits_lem : (b n : ℕ) → b ≡ n → (1 ≤ n) × (n ≤ 16) → size_fits b ≡ true
-size_fits_lem b n e s = let low = s.0 in let high = s.1 in and_from _ _ (le-leb 1 b (omega arith)) (le-leb b 16 (omega arith))
 
 module _ (source : Source) (sound : Sound source) where
   abbrev head : Head
@@ -57,84 +56,32 @@ module _ (source : Source) (sound : Sound source) where
 
     head_fits : (p : ℕ) → 4 ≤ p → p < 508 → head_byte_fits head body p ≡ true
     head_fits p low high =
-        let byte = at p low high in
-        ⊎_elim
-        (λ (a : p < 6). cond-true _ _ _ (lt-ltb p 6 a)
-        ∙ ⊎_elim (λ (b : p < 5). size_fits_lem _ _ (byte ∙ cond-true _ _ _ (lt-ltb p 5 b)) sound.wide)
-        (λ b. size_fits_lem _ _ (byte ∙ cond-false _ _ _ (le-ltb p 5 b) ∙ cond-true _ _ _ (lt-ltb p 6 a)) sound.high)
-        (cases_lt p 5))
-        (λ a. cond-false _ _ _ (le-ltb p 6 a)
-        ∙ ⊎_elim
-        (λ (b : p < 7).
-        let is = byte ∙ cond-false _ _ _ (le-ltb p 5 (omega arith)) ∙ cond-false _ _ _ (le-ltb p 6 a) ∙ cond-true _ _ _ (lt-ltb p 7 b) ∙ sound.count in
         let few = sound.few in
-        cond-true _ _ _ (lt-ltb p 7 b) ∙ le-leb (in_body body p) 64 (omega arith))
-        (λ b. cond-false _ _ _ (le-ltb p 7 b)
-        ∙ ⊎_elim
-        (λ (c : p < 8). cond-true _ _ _ (lt-ltb p 8 c)
-        ∙ zero_fits _ (byte ∙ cond-false _ _ _ (le-ltb p 5 (omega arith)) ∙ cond-false _ _ _ (le-ltb p 6 a) ∙ cond-false _ _ _ (le-ltb p 7 b) ∙ cond-true _ _ _ (lt-ltb p 8 c)))
-        (λ c. cond-false _ _ _ (le-ltb p 8 c)
-        ∙ (let count = sound.count in
-        ⊎_elim (λ (d : p < 8 + head.count). cond-true _ _ _ (lt-ltb p (8 + head.count) d) ∙ stop_fits_lem p c (omega arith))
-        (λ d. cond-false _ _ _ (le-ltb p (8 + head.count) d) ∙ zero_fits _ (at_stop p c high ∙ get_or_past stops (p - 8) 0 (omega arith)))
-        (cases_lt p (8 + head.count))))
-        (cases_lt p 8))
-        (cases_lt p 7))
-        (cases_lt p 6)
+        let count = sound.count in
+        head_written_fits p (in_body body p) head.width head.height head.count (get_or stops (p - 8) 0) _ (at p low high) sound.wide sound.high (omega arith)
+        (λ from to. stop_fits_lem p from (omega arith)) (λ past. get_or_past stops (p - 8) 0 (omega arith))
 
   -- two entries in a byte
   ways_fit : (stop p byte : ℕ) → 4 ≤ p → p < 508 → byte ≡ way_byte source.entry stop p → way_byte_fits head stop p byte ≡ true
   ways_fit stop p byte low high is =
-      ⊎_elim
-      (λ (a : p < 5). cond-true _ _ _ (lt-ltb p 5 a) ∙ eq-eqb byte stop (is ∙ cond-true _ _ _ (lt-ltb p 5 a)))
-      (λ a. cond-false _ _ _ (le-ltb p 5 a)
-      ∙ ⊎_elim
-      (λ (b : p < 8). cond-true _ _ _ (lt-ltb p 8 b) ∙ zero_fits byte (is ∙ cond-false _ _ _ (le-ltb p 5 a) ∙ cond-true _ _ _ (lt-ltb p 8 b)))
-      (λ b. cond-false _ _ _ (le-ltb p 8 b)
-      ∙ ⊎_elim
-      (λ (c : p < 136).
       let e = source.entry stop in
-      let whole = is ∙ cond-false _ _ _ (le-ltb p 5 a) ∙ cond-false _ _ _ (le-ltb p 8 b) ∙ cond-true _ _ _ (lt-ltb p 136 c) in
-      let less = sound.small stop (2 * (p - 8) + 1) in
-      let hi = ap (λ m. m / 16) whole ∙ div-mul-add (e (2 * (p - 8))) 16 (e (2 * (p - 8) + 1)) less in
-      let lo = ap (λ m. m % 16) whole ∙ mod-mul-add (e (2 * (p - 8))) 16 (e (2 * (p - 8) + 1)) less in
-      cond-true _ _ _ (lt-ltb p 136 c)
-      ∙ and_from _ _ (ap (entry_fits head stop (2 * (p - 8))) hi ∙ sound.entries stop (2 * (p - 8)))
-      (ap (entry_fits head stop (2 * (p - 8) + 1)) lo ∙ sound.entries stop (2 * (p - 8) + 1)))
-      (λ c. cond-false _ _ _ (le-ltb p 136 c)
-      ∙ zero_fits byte (is ∙ cond-false _ _ _ (le-ltb p 5 a) ∙ cond-false _ _ _ (le-ltb p 8 b) ∙ cond-false _ _ _ (le-ltb p 136 c)))
-      (cases_lt p 136))
-      (cases_lt p 8))
-      (cases_lt p 5)
+      let first = 2 * (p - 8) in
+      let less = sound.small stop (first + 1) in
+      written_fits 136 p byte stop (e first * 16 + e (first + 1)) _ is
+      (λ from to whole.
+      let hi = ap (λ m. m / 16) whole ∙ div-mul-add (e first) 16 (e (first + 1)) less in
+      let lo = ap (λ m. m % 16) whole ∙ mod-mul-add (e first) 16 (e (first + 1)) less in
+      and_from _ _ (ap (entry_fits head stop first) hi ∙ sound.entries stop first) (ap (entry_fits head stop (first + 1)) lo ∙ sound.entries stop (first + 1)))
 
   half_zero : (p k : ℕ) → k ≡ 0 → key_half p k ≡ 0
-  half_zero p k e = ap (key_half p) e ∙ either (eqb (p % 2) 0)
-    where
-      either : (b : Bool) → cond b (0 / 256 % 256) (0 % 256) ≡ 0
-      either true = refl
-      either false = refl
+  half_zero p k e = grind (arith, nat_tests)
 
   keys_fit : (part p byte : ℕ) → 4 ≤ p → p < 508 → byte ≡ key_byte source.key part p → key_byte_fits head part p byte ≡ true
   keys_fit part p byte low high is =
-      ⊎_elim
-      (λ (a : p < 5). cond-true _ _ _ (lt-ltb p 5 a) ∙ eq-eqb byte part (is ∙ cond-true _ _ _ (lt-ltb p 5 a)))
-      (λ a. cond-false _ _ _ (le-ltb p 5 a)
-      ∙ ⊎_elim
-      (λ (b : p < 8). cond-true _ _ _ (lt-ltb p 8 b) ∙ zero_fits byte (is ∙ cond-false _ _ _ (le-ltb p 5 a) ∙ cond-true _ _ _ (lt-ltb p 8 b)))
-      (λ b. cond-false _ _ _ (le-ltb p 8 b)
-      ∙ ⊎_elim
-      (λ (c : p < 264). cond-true _ _ _ (lt-ltb p 264 c)
-      ∙ ⊎_elim (λ d. or_right _ _ d)
-      (λ d. or_left _ _
-      (zero_fits byte
-      (is ∙ cond-false _ _ _ (le-ltb p 5 a) ∙ cond-false _ _ _ (le-ltb p 8 b) ∙ cond-true _ _ _ (lt-ltb p 264 c)
-      ∙ half_zero p _ (sound.missing (128 * part + (p - 8) / 2) d))))
-      (cases_Bool (is_there head (128 * part + (p - 8) / 2))))
-      (λ c. cond-false _ _ _ (le-ltb p 264 c)
-      ∙ zero_fits byte (is ∙ cond-false _ _ _ (le-ltb p 5 a) ∙ cond-false _ _ _ (le-ltb p 8 b) ∙ cond-false _ _ _ (le-ltb p 264 c)))
-      (cases_lt p 264))
-      (cases_lt p 8))
-      (cases_lt p 5)
+      let segment = 128 * part + (p - 8) / 2 in
+      written_fits 264 p byte part (key_half p (source.key segment)) _ is
+      (λ from to whole.
+      ⊎_elim (λ there. or_right _ _ there) (λ gone. or_left _ _ (zero_fits byte (whole ∙ half_zero p _ (sound.missing segment gone)))) (cases_Bool (is_there head segment)))
 
   bytes_fit : (content : Content) (body : List ℕ) → ((q : ℕ) → 4 ≤ q → q < 508 → in_body body q ≡ content_byte source content q)
       → (p : ℕ) → 4 ≤ p → p < 508 → byte_fits head content body p ≡ true

@@ -1,3 +1,4 @@
+pub mod Regions
 pub mod StopLists
 pub mod Pieces
 pub mod Sources
@@ -6,3 +7,4 @@ pub mod Layouts
 pub mod Readings
 pub mod Rewriting
 pub mod Again
+pub mod Made

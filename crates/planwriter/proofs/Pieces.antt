@@ -1,16 +1,16 @@
 -- What writes into a part of a buffer leave.
-use Rattle.std.proofs.Common.{◌≡◌, ℕ, zero, suc, ◌+◌, ◌-◌, ◌*◌, ◌<◌, ◌≤◌, List, [], ◌∷◌, ◌++◌, map, length, get_or, take, drop, set, Ok, sym, refl, ap, ◌∙◌, arith}
+use Rattle.std.proofs.Common.{◌≡◌, ℕ, zero, suc, ◌+◌, ◌-◌, ◌*◌, ◌<◌, ◌≤◌, List, [], ◌++◌, map, length, take, drop, Option, sym, refl, ap, ◌∙◌, arith}
 use borrow.Rule.Slice.PartMut.{put_mid}
-use Rattle.std.proofs.lemmas.List.FromFn.{fill_by_all, length-map-range_with_len}
-use Rattle.std.proofs.lemmas.List.{drop-drop, drop_all, get_or-take, length-take-le, length-append, take-append-drop, append_assoc, append-nil}
+use Rattle.std.proofs.lemmas.List.FromFn.{length-map-range_with_len}
+use Rattle.std.proofs.lemmas.List.{drop-drop, drop_all, length-append, take-append-drop, append_assoc, append-nil}
 use Rattle.std.proofs.lemmas.Slice.{take-put_mid, drop-put_mid}
-use Rattle.std.proofs.lemmas.Bool.{eq-eqb, le-leb, cond-true}
 use Rattle.std.specs.List.{range_with_len}
-use Rattle.blocks.specs.Words.{closed, big_endian, last_word}
+use Rattle.blocks.specs.Words.{word_sum, closed, big_endian, last_word}
 use Rattle.planfile.specs.declared.block.Content.{Content}
-use Rattle.planfile.specs.Outcomes.{kind_of}
-use Rattle.planfile.proofs.Fills.{fill_more as filled_more}
-use Rattle.planwriter.specs.Files.{Source, block_byte, block_of, content_of, blocks_from, file_of, write_outcome}
+use Rattle.map.specs.declared.side.Side.{Side}
+use Rattle.map.specs.Layouts.{Layout}
+use Rattle.planwriter.specs.Stops.{stops_of}
+use Rattle.planwriter.specs.Files.{Source, source_of, block_byte, block_of, content_of, blocks_from, file_of}
 
 -- after a write to the last four bytes
 pub put_last : (xs ys : List ℕ) → length xs ≡ 512 → put_mid 508 4 xs ys ≡ take 508 xs ++ ys
@@ -18,42 +18,23 @@ put_last xs ys e =
     let none : drop 4 (drop 508 xs) ≡ [] = drop-drop 4 508 xs ∙ drop_all 512 xs (omega arith) in
     ap (λ r. take 508 xs ++ (ys ++ r)) none ∙ ap (λ r. take 508 xs ++ r) (append-nil ys)
 
--- how many there are in the front of an array
-pub count_is : (tables stops : List ℕ) (count : ℕ) → take count tables ≡ stops → count ≤ length tables → length stops ≡ count
-count_is tables stops count e h = sym (ap length e) ∙ length-take-le count tables h
-
-pub written_ok : (keys buffer stops count : ℕ) → keys ≡ 1024 → 512 * (stops + 9) ≤ buffer → stops ≡ count → Ok (512 * (count + 9)) ≡ write_outcome keys buffer stops
-written_ok keys buffer stops count k room same =
-    ap (λ n. Ok (512 * (n + 9))) (sym same) ∙ sym (cond-true _ _ _ (eq-eqb keys 1024 k) ∙ cond-true _ _ _ (le-leb (512 * (stops + 9)) buffer room))
-
--- a list that is filled place by place, as in reading a plan to keep it
-pub fill_more : (f : ℕ → ℕ) (xs : List ℕ) (p y : ℕ) → p < length xs → y ≡ f p → ((k : ℕ) → k < p → get_or xs k 0 ≡ f k) → (k : ℕ) → k < p + 1 → get_or (set xs p y) k 0 ≡ f k
-fill_more f xs p y h e before k l = filled_more f xs p y h e before k l
-
--- the first four bytes of a block
-pub front_stands : (source : Source) (content : Content) (number kind : ℕ) (xs : List ℕ) → length xs ≡ 512 → kind ≡ kind_of content
-    → (k : ℕ) → k < 4 → get_or (set (set (set (set xs 0 kind) 1 number) 2 0) 3 0) k 0 ≡ block_byte source content number k
-front_stands source content number kind [] e is k h = absurd (omega arith)
-front_stands source content number kind (a ∷ []) e is k h = absurd (omega arith)
-front_stands source content number kind (a ∷ b ∷ []) e is k h = absurd (omega arith)
-front_stands source content number kind (a ∷ b ∷ c ∷ []) e is k h = absurd (omega arith)
-front_stands source content number kind (a ∷ b ∷ c ∷ d ∷ xs) e is zero h = is
-front_stands source content number kind (a ∷ b ∷ c ∷ d ∷ xs) e is (suc zero) h = refl
-front_stands source content number kind (a ∷ b ∷ c ∷ d ∷ xs) e is (suc (suc zero)) h = refl
-front_stands source content number kind (a ∷ b ∷ c ∷ d ∷ xs) e is (suc (suc (suc zero))) h = refl
-front_stands source content number kind (a ∷ b ∷ c ∷ d ∷ xs) e is (suc (suc (suc (suc k)))) h = absurd (omega arith)
-
-pub filled : (source : Source) (content : Content) (number : ℕ) (xs : List ℕ) (p : ℕ) → length xs ≡ 512 → 508 ≤ p → ((k : ℕ) → k < p → get_or xs k 0 ≡ block_byte source content number k) → closed (take 508 xs) ≡ block_of source content number
+-- 508 bytes of a block, and the word behind them
+pub closed_block : (source : Source) (content : Content) (number : ℕ) (xs last : List ℕ) → length xs ≡ 512
+    → take 508 xs ≡ map (block_byte source content number) (range_with_len 0 508) → last ≡ big_endian (4294967295 - word_sum (take 508 xs)) → put_mid 508 4 xs last ≡ block_of source content number
 unfolding block_of
-filled source content number xs p long h all =
-    ap closed
-    (fill_by_all (block_byte source content number) (take 508 xs) 508 0 (length-take-le 508 xs (omega arith)) (λ k l. get_or-take 508 xs k 0 l ∙ all k (omega arith)))
+closed_block source content number xs last long front is =
+    put_last xs last long ∙ ap (λ l. take 508 xs ++ l) is ∙ ap closed front
 
 pub block_long : (source : Source) (content : Content) (number : ℕ) → length (block_of source content number) ≡ 512
 unfolding block_of
 block_long source content number =
     let front = map (block_byte source content number) (range_with_len 0 508) in
     length-append front (big_endian (last_word front)) ∙ ap (λ n. n + 4) (length-map-range_with_len (block_byte source content number) 0 508)
+
+-- a block of the same floor, way-finder and keys
+pub block_moved : {D : Type 0} (first : D → ℕ → ℕ → ℕ) (way : D → ℕ → ℕ → ℕ → Option (Side × ℕ)) {l m : Layout} {d e : D} {ks keys block : List ℕ} (k : ℕ) → l ≡ m → d ≡ e → ks ≡ keys
+    → block ≡ block_of (source_of l (first d) (way d) ks) (content_of (stops_of l) k) k → block ≡ block_of (source_of m (first e) (way e) keys) (content_of (stops_of m) k) k
+block_moved first way k p q r is = cc
 
 module _ (source : Source) where
   abbrev block_no : ℕ → List ℕ
@@ -81,9 +62,6 @@ module _ (source : Source) where
   pub record Standing (was is : List ℕ) (k : ℕ) : Type 0 where
     pub done : take (512 * k) is ++ blocks_from source (length source.stops + 9 - k) k ≡ file_of source
     pub rest : drop (512 * k) is ≡ drop (512 * k) was
-
-  pub standing_none : (was : List ℕ) → Standing was was 0
-  standing_none was = let e : length source.stops + 9 - 0 ≡ length source.stops + 9 = omega arith in record { done = ap (λ j. blocks_from source j 0) e; rest = refl }
 
   pub standing_more : (was is block : List ℕ) (k : ℕ) → k < length source.stops + 9 → 512 * (length source.stops + 9) ≤ length is
       → block ≡ block_no k → Standing was is k → Standing was (put_mid (512 * k) (512 * k + 512 - 512 * k) is block) (k + 1)

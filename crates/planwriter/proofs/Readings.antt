@@ -1,7 +1,8 @@
 -- Read again, a written file gives what was written.
-use Rattle.std.proofs.Common.{◌≡◌, ℕ, ◌+◌, ◌-◌, ◌*◌, ◌/◌, ◌%◌, ◌<◌, List, length, get_or, sym, ap, ◌∙◌, ⊎_elim, mod-eq_of_lt, arith}
-use Rattle.std.proofs.lemmas.Nat.{div-mul-add, mod-mul-add, div_below}
-use Rattle.std.proofs.lemmas.Bool.{cases_eq, eq-eqb, ne_eqb, lt-ltb, le-ltb, le-leb, lt-leb, cond-true, cond-false}
+use Rattle.std.proofs.Common.{◌≡◌, ℕ, ◌+◌, ◌*◌, ◌/◌, ◌%◌, ◌<◌, List, length, get_or, sym, ap, ◌∙◌, mod-eq_of_lt, arith}
+use Rattle.std.proofs.lemmas.Nat.{div_below}
+use Rattle.std.proofs.lemmas.Bool.{eq-eqb, ne_eqb, lt-ltb, cond-true, cond-false}
+use Rattle.std.proofs.lemmas.Bool.Decides.{nat_tests}
 use Rattle.planfile.specs.declared.block.Content.TheVariants.{Ways, Keys}
 use Rattle.planfile.specs.Plans.{half_of, entry_at, entry_way, way_in, key_place, key_in}
 use Rattle.planfile.proofs.Contents.{way_to_stop}
@@ -13,37 +14,20 @@ use Rattle.planwriter.proofs.Layouts.{of_layout}
 
 -- the ways and the keys among the blocks
 pub ways_at : (stops : List ℕ) (i : ℕ) → i < length stops → content_of stops (i + 1) ≡ Ways (get_or stops i 0)
-ways_at stops i h =
-    let back : i + 1 - 1 ≡ i = omega arith in
-    cond-false _ _ _ (ne_eqb (i + 1) 0 (λ e. omega arith)) ∙ cond-true _ _ _ (le-leb (i + 1) (length stops) (omega arith)) ∙ ap (λ j. Ways (get_or stops j 0)) back
+ways_at stops i h = grind (arith, nat_tests)
 
 pub keys_at : (stops : List ℕ) (j : ℕ) → content_of stops (length stops + 1 + j) ≡ Keys j
-keys_at stops j =
-    let n = length stops in
-    let part : n + 1 + j - (n + 1) ≡ j = omega arith in
-    cond-false _ _ _ (ne_eqb (n + 1 + j) 0 (λ e. omega arith)) ∙ cond-false _ _ _ (lt-leb (n + 1 + j) n (omega arith)) ∙ ap Keys part
+keys_at stops j = grind (arith, nat_tests)
 
 pub pair_byte : (entry : ℕ → ℕ → ℕ) (stop q : ℕ) → q < 128 → way_byte entry stop (8 + q) ≡ entry stop (2 * q) * 16 + entry stop (2 * q + 1)
-pair_byte entry stop q h =
-    let same : 8 + q - 8 ≡ q = omega arith in
-    cond-false _ _ _ (le-ltb (8 + q) 5 (omega arith)) ∙ cond-false _ _ _ (le-ltb (8 + q) 8 (omega arith)) ∙ cond-true _ _ _ (lt-ltb (8 + q) 136 (omega arith))
-    ∙ ap (λ m. entry stop (2 * m) * 16 + entry stop (2 * m + 1)) same
+pair_byte entry stop q h = grind (arith, nat_tests)
 
 pub key_byte_lem : (key : ℕ → ℕ) (part q : ℕ) → q < 256 → key_byte key part (8 + q) ≡ key_half (8 + q) (key (128 * part + q / 2))
-key_byte_lem key part q h =
-    let same : 8 + q - 8 ≡ q = omega arith in
-    cond-false _ _ _ (le-ltb (8 + q) 5 (omega arith)) ∙ cond-false _ _ _ (le-ltb (8 + q) 8 (omega arith)) ∙ cond-true _ _ _ (lt-ltb (8 + q) 264 (omega arith))
-    ∙ ap (λ m. key_half (8 + q) (key (128 * part + m / 2))) same
+key_byte_lem key part q h = grind (arith, nat_tests)
 
 -- the half of a byte that holds the entry of table t
 pub half_is : (e : ℕ → ℕ) (t : ℕ) → e (2 * (t / 2) + 1) < 16 → half_of t (e (2 * (t / 2)) * 16 + e (2 * (t / 2) + 1)) ≡ e t
-half_is e t small =
-    ⊎_elim
-    (λ (even : t % 2 ≡ 0). let same : 2 * (t / 2) ≡ t = omega arith in
-    cond-true _ _ _ (eq-eqb (t % 2) 0 even) ∙ div-mul-add (e (2 * (t / 2))) 16 (e (2 * (t / 2) + 1)) small ∙ ap e same)
-    (λ odd. let same : 2 * (t / 2) + 1 ≡ t = omega (arith, odd) in
-    cond-false _ _ _ (ne_eqb (t % 2) 0 odd) ∙ mod-mul-add (e (2 * (t / 2))) 16 (e (2 * (t / 2) + 1)) small ∙ ap e same)
-    (cases_eq (t % 2) 0)
+half_is e t small = grind (arith, nat_tests)
 
 module _ (source : Source) (sound : Sound source) where
   abbrev file : List ℕ

@@ -1,9 +1,10 @@
 -- A plan that was read and is written again gives its bytes again.
-use Rattle.std.proofs.Common.{◌≡◌, ℕ, zero, suc, ◌+◌, ◌-◌, ◌*◌, ◌/◌, ◌%◌, ◌<◌, ◌≤◌, Bool, true, false, cond, not, ◌&&◌, eqb, leb, ◌⊎◌, List, ◌++◌, length, get_or, take, drop, Option, sym, refl, ap, ◌∙◌, inl, inr, ⊎_elim, arith}
+use Rattle.std.proofs.Common.{◌≡◌, ℕ, zero, suc, ◌+◌, ◌-◌, ◌*◌, ◌/◌, ◌%◌, ◌<◌, ◌≤◌, Bool, true, false, not, ◌&&◌, eqb, ◌⊎◌, List, ◌++◌, length, get_or, take, drop, Option, sym, refl, ap, ◌∙◌, inl, inr, ⊎_elim, arith}
 use Rattle.std.proofs.lemmas.Nat.{div-mul-add, mod-mul-add, div-add-mod'}
 use Rattle.std.proofs.lemmas.List.FromFn.{fill_by_all}
 use Rattle.std.proofs.lemmas.List.{get_or-take, get_or-drop, get_or_past, length-take-le, length-drop, drop-drop, drop_all, take-append-drop}
-use Rattle.std.proofs.lemmas.Bool.{cases_eq, cases_lt, eq-eqb, eqb-true, ne_eqb, lt-ltb, le-ltb, le-leb, lt-leb, cond-true, cond-false, and_from, not_from_false, both_ways}
+use Rattle.std.proofs.lemmas.Bool.{cases_eq, cases_lt, eq-eqb, ne_eqb, lt-ltb, le-ltb, cond-true, cond-false, and_from, not_from_false, both_ways}
+use Rattle.std.proofs.lemmas.Bool.Decides.{nat_tests}
 use Rattle.map.specs.declared.side.Side.{Side}
 use Rattle.map.specs.Floors.{on_floor}
 use Rattle.map.specs.Layouts.{Layout}
@@ -21,14 +22,15 @@ use Rattle.planfile.proofs.Contents.{content_ways, content_keys, few, holds, way
 use Rattle.planwriter.specs.Stops.{stops_of}
 use Rattle.planwriter.specs.Files.{Source, entry_number, entry_for, key_for, head_for, source_of, head_byte, way_byte, key_half, key_byte, content_byte, block_byte, block_of, content_of, blocks_from, file_of}
 use Rattle.planwriter.specs.Promises.{SamePlan}
-use Rattle.planwriter.proofs.Spots.{head_with}
+use Rattle.planwriter.proofs.Regions.{fitting_written, head_fitting_written}
+use Rattle.planwriter.proofs.Spots.{head_with, content_agrees}
 
 -- the part of a segment, and its place there
 row_is : (j r : ℕ) → r < 128 → (128 * j + r) / 128 ≡ j
-row_is j r h = let e : 128 * j + r ≡ j * 128 + r = omega arith in ap (λ m. m / 128) e ∙ div-mul-add j 128 r h
+row_is j r h = grind (arith, nat_tests)
 
 column_is : (j r : ℕ) → r < 128 → (128 * j + r) % 128 ≡ r
-column_is j r h = let e : 128 * j + r ≡ j * 128 + r = omega arith in ap (λ m. m % 128) e ∙ mod-mul-add j 128 r h
+column_is j r h = grind (arith, nat_tests)
 
 -- the number of an entry's way is the entry
 entry_again : (e : ℕ) → (e ≡ 15) ⊎ (e < 4) → entry_number (entry_way e) ≡ e
@@ -64,55 +66,24 @@ module _ (layout : Layout) (first : ℕ → ℕ → ℕ) (way : ℕ → ℕ → 
       ∙ ap (head_with (get_or file 4 0) (get_or file 5 0)) count_same
 
   content_same : (k : ℕ) → content_of (stops_of layout) k ≡ content_at file k
-  content_same k =
-      let c = count_same in
-      ⊎_elim (λ (z : k ≡ 0). cond-true _ _ _ (eq-eqb k 0 z) ∙ sym (cond-true _ _ _ (eq-eqb k 0 z)))
-      (λ ne. cond-false _ _ _ (ne_eqb k 0 ne)
-      ∙ ap (λ m. cond (leb k m) (Ways (get_or (stops_of layout) (k - 1) 0)) (Keys (k - (m + 1)))) c
-      ∙ ⊎_elim
-      (λ (h : k < n + 1).
-      let at : 8 + (k - 1) ≡ 7 + k = omega (arith, ne) in
-      cond-true _ _ _ (le-leb k n (omega arith)) ∙ ap Ways (stop_same (k - 1) (omega (arith, ne)) ∙ ap (λ p. get_or file p 0) at)
-      ∙ sym (cond-true _ _ _ (le-leb k n (omega arith))))
-      (λ h. cond-false _ _ _ (lt-leb k n (omega arith)) ∙ sym (cond-false _ _ _ (lt-leb k n (omega arith))))
-      (cases_lt k (n + 1))
-      ∙ sym (cond-false _ _ _ (ne_eqb k 0 ne)))
-      (cases_eq k 0)
+  content_same k = let c = count_same in sym (content_agrees file (stops_of layout) (sym c) (λ i h. sym (stop_same i (omega arith))) k)
 
   -- the layout's rule for a byte, by what its block holds
   rule : (k p : ℕ) (content : Content) → k < n + 9 → 4 ≤ p → p < 508 → content_at file k ≡ content → byte_fits (file_head file) content (drop 4 (block_at file k)) p ≡ true
   rule k p content h low high e = ap (λ c. byte_fits (file_head file) c (drop 4 (block_at file k)) p) (sym e) ∙ (f.blocks k h).bytes p low high
-
-  is_zero : (k p : ℕ) → 4 ≤ p → p < 508 → eqb (in_body (drop 4 (block_at file k)) p) 0 ≡ true → get_or file (512 * k + p) 0 ≡ 0
-  is_zero k p low high e = sym (in_block file k p low (omega arith)) ∙ eqb-true _ 0 e
 
   -- the head
   head_byte_lem : (p : ℕ) → 4 ≤ p → p < 508 → head_byte (head_for layout) (stops_of layout) p ≡ get_or file (512 * 0 + p) 0
   head_byte_lem p low high =
       let l = few file f in
       let c = count_same in
-      let told = rule 0 p Stops (omega arith) low high refl in
-      ⊎_elim (λ (a : p < 5). let is : 4 ≡ 512 * 0 + p = omega arith in cond-true _ _ _ (lt-ltb p 5 a) ∙ same.width ∙ ap (λ q. get_or file q 0) is)
-      (λ a. cond-false _ _ _ (le-ltb p 5 a)
-      ∙ ⊎_elim (λ (b : p < 6). let is : 5 ≡ 512 * 0 + p = omega arith in cond-true _ _ _ (lt-ltb p 6 b) ∙ same.height ∙ ap (λ q. get_or file q 0) is)
-      (λ b. cond-false _ _ _ (le-ltb p 6 b)
-      ∙ ⊎_elim (λ (d : p < 7). let is : 6 ≡ 512 * 0 + p = omega arith in cond-true _ _ _ (lt-ltb p 7 d) ∙ count_same ∙ ap (λ q. get_or file q 0) is)
-      (λ d. cond-false _ _ _ (le-ltb p 7 d)
-      ∙ ⊎_elim
-      (λ (e : p < 8). cond-true _ _ _ (lt-ltb p 8 e)
-      ∙ sym (is_zero 0 p low high
-      (sym (cond-false _ _ _ (le-ltb p 6 b) ∙ cond-false _ _ _ (le-ltb p 7 d) ∙ cond-true _ _ _ (lt-ltb p 8 e)) ∙ told)))
-      (λ e. cond-false _ _ _ (le-ltb p 8 e)
-      ∙ ⊎_elim
-      (λ (g : p < 8 + n). let is : 8 + (p - 8) ≡ 512 * 0 + p = omega arith in stop_same (p - 8) (omega arith) ∙ ap (λ q. get_or file q 0) is)
-      (λ g. get_or_past (stops_of layout) (p - 8) 0 (omega arith)
-      ∙ sym (is_zero 0 p low high
-      (sym (cond-false _ _ _ (le-ltb p 6 b) ∙ cond-false _ _ _ (le-ltb p 7 d) ∙ cond-false _ _ _ (le-ltb p 8 e) ∙ cond-false _ _ _ (le-ltb p (8 + n) g)) ∙ told)))
-      (cases_lt p (8 + n)))
-      (cases_lt p 8))
-      (cases_lt p 7))
-      (cases_lt p 6))
-      (cases_lt p 5)
+      let byte = in_block file 0 p low (omega arith) in
+      let from : (q : ℕ) → q ≡ p → get_or file q 0 ≡ in_body (drop 4 (block_at file 0)) p = λ q e. let is : q ≡ 512 * 0 + p = omega arith in ap (λ m. get_or file m 0) is ∙ sym byte in
+      head_fitting_written p (in_body (drop 4 (block_at file 0)) p) layout.width layout.height (length (stops_of layout)) n (get_or (stops_of layout) (p - 8) 0) _ _ _
+      (rule 0 p Stops (omega arith) low high refl) low
+      (λ e. same.width ∙ from 4 (sym e)) (λ e. same.height ∙ from 5 (sym e)) (λ e. c ∙ from 6 (sym e))
+      (λ low high. stop_same (p - 8) (omega arith) ∙ from (8 + (p - 8)) (omega arith)) (λ past. get_or_past (stops_of layout) (p - 8) 0 (omega arith))
+      ∙ byte
 
   -- an entry that is written again
   entry_same : (i t : ℕ) → i < n → t < 256 → entry_for (head_for layout) first way (stop_at file i) t ≡ entry_at file i t
@@ -133,29 +104,16 @@ module _ (layout : Layout) (first : ℕ → ℕ → ℕ) (way : ℕ → ℕ → 
       let stop = stop_at file i in
       let at = in_block file (i + 1) p low (omega arith) in
       let told : way_byte_fits (file_head file) stop p byte ≡ true = ap (way_byte_fits (file_head file) stop p) (sym at) ∙ rule (i + 1) p (Ways stop) (omega arith) low high (content_ways file i h) in
-      ⊎_elim
-      (λ (a : p < 5). cond-true _ _ _ (lt-ltb p 5 a) ∙ sym (eqb-true byte stop (sym (cond-true _ _ _ (lt-ltb p 5 a)) ∙ told)))
-      (λ a. cond-false _ _ _ (le-ltb p 5 a)
-      ∙ ⊎_elim
-      (λ (b : p < 8). cond-true _ _ _ (lt-ltb p 8 b) ∙ sym (eqb-true byte 0 (sym (cond-false _ _ _ (le-ltb p 5 a) ∙ cond-true _ _ _ (lt-ltb p 8 b)) ∙ told)))
-      (λ b. cond-false _ _ _ (le-ltb p 8 b)
-      ∙ ⊎_elim
-      (λ (d : p < 136).
+      fitting_written 136 p byte stop _ _ told
+      (λ from to.
       let q = p - 8 in
       let spot : (t : ℕ) → t / 2 ≡ q → get_or file (512 * (i + 1) + 8 + t / 2) 0 ≡ byte = λ t e. let is : 512 * (i + 1) + 8 + t / 2 ≡ 512 * (i + 1) + p = omega arith in ap (λ m. get_or file m 0) is in
       let even : 2 * q % 2 ≡ 0 = omega arith in
-      let odd : (2 * q + 1) % 2 ≡ 1 = omega arith in
       let half : 2 * q / 2 ≡ q = omega arith in
       let half' : (2 * q + 1) / 2 ≡ q = omega arith in
       let hi = entry_same i (2 * q) h (omega arith) ∙ cond-true _ _ _ (eq-eqb (2 * q % 2) 0 even) ∙ ap (λ m. m / 16) (spot (2 * q) half) in
       let lo = entry_same i (2 * q + 1) h (omega arith) ∙ cond-false _ _ _ (ne_eqb ((2 * q + 1) % 2) 0 (λ e. omega arith)) ∙ ap (λ m. m % 16) (spot (2 * q + 1) half') in
-      cond-true _ _ _ (lt-ltb p 136 d)
-      ∙ ap (λ m. m * 16 + entry_for (head_for layout) first way stop (2 * q + 1)) hi ∙ ap (λ m. byte / 16 * 16 + m) lo ∙ div-add-mod' byte 16)
-      (λ d. cond-false _ _ _ (le-ltb p 136 d)
-      ∙ sym (eqb-true byte 0 (sym (cond-false _ _ _ (le-ltb p 5 a) ∙ cond-false _ _ _ (le-ltb p 8 b) ∙ cond-false _ _ _ (le-ltb p 136 d)) ∙ told)))
-      (cases_lt p 136))
-      (cases_lt p 8))
-      (cases_lt p 5)
+      ap (λ m. m * 16 + entry_for (head_for layout) first way stop (2 * q + 1)) hi ∙ ap (λ m. byte / 16 * 16 + m) lo ∙ div-add-mod' byte 16)
 
   key_same : (s : ℕ) → s < 1024 → key_for (head_for layout) keys s ≡ key_in file s
   key_same s h = ap (λ x. key_for x keys s) head_same ∙ go _ refl
@@ -169,14 +127,8 @@ module _ (layout : Layout) (first : ℕ → ℕ → ℕ) (way : ℕ → ℕ → 
       let byte = get_or file (512 * (n + 1 + j) + p) 0 in
       let at = in_block file (n + 1 + j) p low (omega arith) in
       let told : key_byte_fits (file_head file) j p byte ≡ true = ap (key_byte_fits (file_head file) j p) (sym at) ∙ rule (n + 1 + j) p (Keys j) (omega arith) low high (content_keys file j) in
-      ⊎_elim
-      (λ (a : p < 5). cond-true _ _ _ (lt-ltb p 5 a) ∙ sym (eqb-true byte j (sym (cond-true _ _ _ (lt-ltb p 5 a)) ∙ told)))
-      (λ a. cond-false _ _ _ (le-ltb p 5 a)
-      ∙ ⊎_elim
-      (λ (b : p < 8). cond-true _ _ _ (lt-ltb p 8 b) ∙ sym (eqb-true byte 0 (sym (cond-false _ _ _ (le-ltb p 5 a) ∙ cond-true _ _ _ (lt-ltb p 8 b)) ∙ told)))
-      (λ b. cond-false _ _ _ (le-ltb p 8 b)
-      ∙ ⊎_elim
-      (λ (d : p < 264).
+      fitting_written 264 p byte j _ _ told
+      (λ from to.
       let s = 128 * j + (p - 8) / 2 in
       let within : s < 1024 = omega arith in
       let row = row_is j ((p - 8) / 2) (omega arith) in
@@ -186,7 +138,7 @@ module _ (layout : Layout) (first : ℕ → ℕ → ℕ) (way : ℕ → ℕ → 
       let hi-fits = all (key_place file s) in
       let lo-fits = all (key_place file s + 1) in
       let key = key_same s within ∙ cond-true _ _ _ (lt-ltb s 1024 within) in
-      cond-true _ _ _ (lt-ltb p 264 d) ∙ ap (key_half p) key
+      ap (key_half p) key
       ∙ ⊎_elim
       (λ (even : p % 2 ≡ 0).
       let is : key_place file s ≡ 512 * (n + 1 + j) + p = omega arith in
@@ -197,11 +149,6 @@ module _ (layout : Layout) (first : ℕ → ℕ → ℕ) (way : ℕ → ℕ → 
       let is : key_place file s + 1 ≡ 512 * (n + 1 + j) + p = omega (arith, odd) in
       cond-false _ _ _ (ne_eqb (p % 2) 0 odd) ∙ mod-mul-add hi 256 lo lo-fits ∙ ap (λ m. get_or file m 0) is)
       (cases_eq (p % 2) 0))
-      (λ d. cond-false _ _ _ (le-ltb p 264 d)
-      ∙ sym (eqb-true byte 0 (sym (cond-false _ _ _ (le-ltb p 5 a) ∙ cond-false _ _ _ (le-ltb p 8 b) ∙ cond-false _ _ _ (le-ltb p 264 d)) ∙ told)))
-      (cases_lt p 264))
-      (cases_lt p 8))
-      (cases_lt p 5)
 
   -- each byte before the last word
   byte_same : (k p : ℕ) → k < n + 9 → p < 508 → block_byte source (content_of (stops_of layout) k) k p ≡ get_or file (512 * k + p) 0

@@ -1,6 +1,7 @@
 -- What a map, a way-finder and keys give to be written.
-use Rattle.std.proofs.Common.{◌≡◌, ℕ, ◌+◌, ◌<◌, ◌≤◌, Bool, true, false, not, ◌&&◌, eqb, ◌⊎◌, List, length, get_or, Some, None, Option, refl, ◌∙◌, inl, inr, ⊎_elim, arith}
-use Rattle.std.proofs.lemmas.Bool.{cond-true, cond-false, eq-eqb, lt-ltb, or_left, or_right, and_from}
+use Rattle.std.proofs.Common.{◌≡◌, ℕ, ◌+◌, ◌<◌, ◌≤◌, Bool, true, false, not, ◌&&◌, eqb, ◌⊎◌, List, length, get_or, Some, None, Option, refl, inl, inr, arith}
+use Rattle.std.proofs.lemmas.Bool.{cond-false}
+use Rattle.std.proofs.lemmas.Bool.Decides.{nat_tests}
 use Rattle.map.specs.declared.side.Side.{Side}
 use Rattle.map.specs.declared.side.Side.TheVariants.{North, East, South, West}
 use Rattle.map.specs.Sides.{side_number}
@@ -38,14 +39,8 @@ module _ (head : Head) (first : ℕ → ℕ → ℕ) (way : ℕ → ℕ → ℕ 
   -- the entry that is written, by whether the table has one
   has_entry : (stop t : ℕ) (b : Bool) → (on_floor head.width head.height t && not (eqb t stop)) ≡ b
       → (entry_fits head stop t (entry_for head first way stop t) ≡ true) × (entry_for head first way stop t < 16)
-  has_entry stop t false e =
-      let is = cond-false (on_floor head.width head.height t && not (eqb t stop)) (entry_number (way t stop (first t stop))) 15 e in
-      (or_left _ _ (eq-eqb (entry_for head first way stop t) 15 is), omega arith)
-  has_entry stop t true e =
-      let is = cond-true (on_floor head.width head.height t && not (eqb t stop)) (entry_number (way t stop (first t stop))) 15 e in
-      ⊎_elim (λ f. (or_left _ _ (eq-eqb (entry_for head first way stop t) 15 (is ∙ f)), omega arith))
-      (λ f. (or_right _ _ (and_from _ _ (lt-ltb (entry_for head first way stop t) 4 (omega arith)) e), omega arith))
-      (entry_is (way t stop (first t stop)))
+  has_entry stop t false e = grind (arith, nat_tests)
+  has_entry stop t true e = let is = entry_is (way t stop (first t stop)) in grind (arith, nat_tests)
 
 pub sound : (layout : Layout) (first : ℕ → ℕ → ℕ) (way : ℕ → ℕ → ℕ → Option (Side × ℕ)) (keys : List ℕ)
     → Lawful layout → ((s : ℕ) → get_or keys s 0 < 65536) → Sound (source_of layout first way keys)
@@ -64,5 +59,5 @@ sound layout first way keys lawful fit =
     }
   where
     small_key : (s : ℕ) (b : Bool) → is_there (head_for layout) s ≡ b → key_for (head_for layout) keys s < 65536
-    small_key s true e = let is = cond-true (is_there (head_for layout) s) (get_or keys s 0) 0 e in let l = fit s in omega arith
-    small_key s false e = let is = cond-false (is_there (head_for layout) s) (get_or keys s 0) 0 e in omega arith
+    small_key s true e = grind (arith, nat_tests)
+    small_key s false e = grind (arith, nat_tests)

@@ -1,13 +1,13 @@
 -- Where the bytes of a written file stand.
-use Rattle.std.proofs.Common.{◌≡◌, ℕ, zero, suc, ◌+◌, ◌-◌, ◌*◌, ◌<◌, ◌≤◌, cond, leb, List, ◌++◌, map, length, get_or, take, drop, sym, ap, ◌∙◌, ⊎_elim, zero-add, arith}
+use Rattle.std.proofs.Common.{◌≡◌, ℕ, zero, suc, ◌+◌, ◌-◌, ◌*◌, ◌<◌, ◌≤◌, List, ◌++◌, map, length, get_or, take, drop, sym, ap, ◌∙◌, zero-add, arith}
 use Rattle.std.proofs.lemmas.List.FromFn.{length-map-range_with_len, get_or-map-range_with_len}
 use Rattle.std.proofs.lemmas.List.{take_at, drop_at, drop-drop, get_or_append_left}
-use Rattle.std.proofs.lemmas.Bool.{cases_eq, cases_lt, eq-eqb, ne_eqb, le-ltb, le-leb, lt-leb, cond-true, cond-false}
+use Rattle.std.proofs.lemmas.Bool.Decides.{nat_tests}
 use Rattle.std.specs.List.{range_with_len}
 use Rattle.blocks.specs.Words.{big_endian, last_word}
 use Rattle.planfile.specs.declared.block.Head.{Head}
 use Rattle.planfile.specs.declared.block.Content.{Content}
-use Rattle.planfile.specs.declared.block.Content.TheVariants.{Stops, Ways, Keys}
+use Rattle.planfile.specs.declared.block.Content.TheVariants.{Stops}
 use Rattle.planfile.specs.Outcomes.{block_at, content_at, file_head}
 use Rattle.planfile.specs.Plans.{stop_at}
 use Rattle.planfile.proofs.Spots.{at_block}
@@ -28,8 +28,11 @@ block_byte_lem source content number p h =
 
 -- behind the first four bytes stands the content
 pub content_byte_lem : (source : Source) (content : Content) (number p : ℕ) → 4 ≤ p → block_byte source content number p ≡ content_byte source content p
-content_byte_lem source content number p h =
-    cond-false _ _ _ (le-ltb p 1 (omega arith)) ∙ cond-false _ _ _ (le-ltb p 2 (omega arith)) ∙ cond-false _ _ _ (le-ltb p 4 h)
+content_byte_lem source content number p h = grind (arith, nat_tests)
+
+-- a file with these stops has this content in each block
+pub content_agrees : (file stops : List ℕ) → get_or file 6 0 ≡ length stops → ((i : ℕ) → i < length stops → stop_at file i ≡ get_or stops i 0) → (k : ℕ) → content_at file k ≡ content_of stops k
+content_agrees file stops n each k = let s = each (k - 1) in grind (arith, nat_tests)
 
 module _ (source : Source) where
   abbrev pub block_no : ℕ → List ℕ
@@ -57,8 +60,7 @@ module _ (source : Source) where
       sym (at_block (file_of source) k p (omega arith)) ∙ ap (λ b. get_or b p 0) (block_is k h) ∙ block_byte_lem source (content_of source.stops k) k p l
 
   pub stop_byte : (p : ℕ) → 8 ≤ p → head_byte source.head source.stops p ≡ get_or source.stops (p - 8) 0
-  stop_byte p h =
-      cond-false _ _ _ (le-ltb p 5 (omega arith)) ∙ cond-false _ _ _ (le-ltb p 6 (omega arith)) ∙ cond-false _ _ _ (le-ltb p 7 (omega arith)) ∙ cond-false _ _ _ (le-ltb p 8 h)
+  stop_byte p h = grind (arith, nat_tests)
 
   module _ (sound : Sound source) where
     abbrev file : List ℕ
@@ -87,18 +89,4 @@ module _ (source : Source) where
         ∙ content_byte_lem source Stops 0 (8 + i) (omega arith) ∙ stop_byte (8 + i) (omega arith) ∙ ap (λ j. get_or source.stops j 0) back
 
     pub content_is : (k : ℕ) → content_at file k ≡ content_of source.stops k
-    content_is k =
-        let n = count_is in
-        ⊎_elim (λ (z : k ≡ 0). cond-true _ _ _ (eq-eqb k 0 z) ∙ sym (cond-true _ _ _ (eq-eqb k 0 z)))
-        (λ ne. cond-false _ _ _ (ne_eqb k 0 ne)
-        ∙ ap (λ m. cond (leb k m) (Ways (get_or file (7 + k) 0)) (Keys (k - (m + 1)))) n
-        ∙ ⊎_elim
-        (λ (h : k < length source.stops + 1).
-        let within : k ≤ length source.stops = omega arith in
-        let at : 7 + k ≡ 8 + (k - 1) = omega (arith, ne) in
-        cond-true _ _ _ (le-leb k (length source.stops) within) ∙ ap Ways (ap (λ p. get_or file p 0) at ∙ stop_is (k - 1) (omega (arith, ne)))
-        ∙ sym (cond-true _ _ _ (le-leb k (length source.stops) within)))
-        (λ h. cond-false _ _ _ (lt-leb k (length source.stops) (omega arith)) ∙ sym (cond-false _ _ _ (lt-leb k (length source.stops) (omega arith))))
-        (cases_lt k (length source.stops + 1))
-        ∙ sym (cond-false _ _ _ (ne_eqb k 0 ne)))
-        (cases_eq k 0)
+    content_is k = content_agrees file source.stops count_is stop_is k

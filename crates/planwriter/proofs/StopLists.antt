@@ -1,6 +1,6 @@
 -- The stops of a map, one after another.
-use Rattle.std.proofs.Common.{◌≡◌, ℕ, zero, suc, ◌+◌, ◌-◌, ◌<◌, ◌≤◌, Bool, true, false, cond, List, [], ◌∷◌, ◌++◌, length, get_or, take, drop, set, sym, refl, ap, ◌∙◌, ⊎_elim, arith}
-use Rattle.std.proofs.lemmas.List.{drop_more, drop_all, get_or_past, append_assoc, append-nil, length-set, take_more_set}
+use Rattle.std.proofs.Common.{◌≡◌, ℕ, zero, suc, ◌+◌, ◌-◌, ◌<◌, ◌≤◌, Bool, true, false, cond, List, [], ◌∷◌, ◌++◌, length, get_or, drop, sym, refl, ap, ◌∙◌, ⊎_elim, arith}
+use Rattle.std.proofs.lemmas.List.{drop_more, drop_all, get_or_past, append_assoc, append-nil, length-append}
 use Rattle.std.proofs.lemmas.Bool.{cond-true, cond-false, cases_lt}
 use Rattle.map.specs.Counts.{how_many}
 use Rattle.map.specs.Layouts.{Layout, is_stop}
@@ -98,45 +98,27 @@ module _ (m : Layout) where
         | not_here b e ↦ let l = ap length e in rw e (rising k (t + 1) i (omega arith))
       ]
 
-  -- one stop more in its place
-  pub put_stop : (tables : List ℕ) (count t : ℕ) → t < 256 → count < length tables → is_stop m t ≡ true
-      → take count tables ++ stops_from m (256 - t) t ≡ stops_of m → take (count + 1) (set tables count t) ++ stops_from m (256 - (t + 1)) (t + 1) ≡ stops_of m
-  put_stop tables count t h l b so =
-      ap (λ x. x ++ stops_from m (256 - (t + 1)) (t + 1)) (take_more_set tables count t l)
-      ∙ append_assoc (take count tables) (t ∷ []) (stops_from m (256 - (t + 1)) (t + 1))
-      ∙ ap (λ x. take count tables ++ x) (sym (is_next 256 t h b)) ∙ so
+  -- the stops that were found before table t, and those that come
+  abbrev pub Found : List ℕ → ℕ → Type 0
+  Found stops t = stops ++ stops_from m (256 - t) t ≡ stops_of m
 
-  -- the stops found before table t, and those that come
-  pub record Found (tables : List ℕ) (count t : ℕ) : Type 0 where
-    pub long : length tables ≡ 64
-    pub all : take count tables ++ stops_from m (256 - t) t ≡ stops_of m
-    pub small : count + length (stops_from m (256 - t) t) ≤ 64
+  pub has_room : (stops : List ℕ) (t : ℕ) → how_many m.stops ≤ 64 → t < 256 → is_stop m t ≡ true → Found stops t → length stops < 64
+  has_room stops t most h b all =
+      let next = ap length (is_next 256 t h b) in
+      let whole = ap length all in
+      let l = few 256 0 in
+      omega (arith, length-append stops (stops_from m (256 - t) t))
 
-  pub found_none : how_many m.stops ≤ 64 → (tables : List ℕ) → length tables ≡ 64 → Found tables 0 0
-  found_none h tables long = let l = few 256 0 in record { long = long; all = refl; small = omega arith }
+  pub found_more : (stops later : List ℕ) (t : ℕ) → t < 256 → is_stop m t ≡ true → later ≡ stops ++ t ∷ [] → Found stops t → Found later (t + 1)
+  found_more stops later t h b p all =
+      ap (λ x. x ++ stops_from m (256 - (t + 1)) (t + 1)) p
+      ∙ append_assoc stops (t ∷ []) (stops_from m (256 - (t + 1)) (t + 1))
+      ∙ ap (λ x. stops ++ x) (sym (is_next 256 t h b)) ∙ all
 
-  pub has_room : (tables : List ℕ) (count t : ℕ) → t < 256 → is_stop m t ≡ true → Found tables count t → count < 64
-  has_room tables count t h b f = let l = ap length (is_next 256 t h b) in let s = f.small in omega arith
+  pub found_other : (stops later : List ℕ) (t : ℕ) → t < 256 → is_stop m t ≡ false → later ≡ stops → Found stops t → Found later (t + 1)
+  found_other stops later t h b p all =
+      ap (λ x. x ++ stops_from m (256 - (t + 1)) (t + 1)) p
+      ∙ ap (λ x. stops ++ x) (sym (is_later 256 t h b)) ∙ all
 
-  pub found_more : (tables later : List ℕ) (count next t : ℕ) → t < 256 → is_stop m t ≡ true → later ≡ set tables count t → next ≡ count + 1 → Found tables count t → Found later next (t + 1)
-  found_more tables later count next t h b p q f =
-      let room = has_room tables count t h b f in
-      let l = ap length (is_next 256 t h b) in
-      let s = f.small in
-      let long = f.long in
-      rw (p, q)
-      (record {
-        long = length-set tables count t ∙ long;
-        all = put_stop tables count t h (omega arith) b f.all;
-        small = omega arith;
-      })
-
-  pub found_other : (tables later : List ℕ) (count next t : ℕ) → t < 256 → is_stop m t ≡ false → later ≡ tables → next ≡ count → Found tables count t → Found later next (t + 1)
-  found_other tables later count next t h b p q f =
-      let e = is_later 256 t h b in
-      let l = ap length e in
-      let s = f.small in
-      rw (p, q) (record { long = f.long; all = ap (λ x. take count tables ++ x) (sym e) ∙ f.all; small = omega arith })
-
-  pub found_all : (tables : List ℕ) (count t : ℕ) → 256 ≤ t → Found tables count t → take count tables ≡ stops_of m
-  found_all tables count t h f = sym (append-nil (take count tables)) ∙ ap (λ x. take count tables ++ x) (sym (no_more 256 t h)) ∙ f.all
+  pub found_all : (stops : List ℕ) (t : ℕ) → 256 ≤ t → Found stops t → stops ≡ stops_of m
+  found_all stops t h all = sym (append-nil stops) ∙ ap (λ x. stops ++ x) (sym (no_more 256 t h)) ∙ all

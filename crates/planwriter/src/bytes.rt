@@ -1,10 +1,10 @@
 // The bytes of a block, each by its place in the block.
-ghost use Rattle.std.specs.Prelude.{◌≡◌, ◌<◌, ◌≤◌, length};
+ghost use Rattle.std.specs.Prelude.{◌≡◌, ◌+◌, ◌<◌, ◌≤◌, length};
 ghost use Rattle.map.specs.Layouts.{layout};
 ghost use Rattle.planwriter.specs.Stops.{stops_of};
-ghost use Rattle.planwriter.specs.Files.{entry_number, entry_for, key_for, head_for, source_of, head_byte, way_byte, key_half, key_byte, content_byte, content_of};
+ghost use Rattle.planwriter.specs.Files.{entry_number, entry_for, key_for, head_for, source_of, head_byte, way_byte, key_half, key_byte, content_byte, content_of, block_byte};
 
-use map::map::Map;
+use crate::source::Source;
 use map::side::Side;
 use planfile::block::Content;
 use ways::finder::WayFinder;
@@ -13,126 +13,122 @@ fn entry_number(way: Option<(Side, u32)>) -> u8
     ensures is { result ≡ entry_number way }
     ensures small { result < 16 }
 {
-    match way {
-        None => 15,
-        Some((side, _)) => side.number(),
-    }
-}
-
-/// The entry of a table for a stop.
-fn entry_for<W: WayFinder>(map: &Map, finder: &W, stop: u8, table: u8) -> u8
-    ensures is { result ≡ entry_for (head_for (layout map.now)) (W.WayFinder.first finder.now) (W.WayFinder.way finder.now) stop table }
-    ensures small { result < 16 }
-{
-    if map.has(table) && table != stop {
-        let note = finder.first_note(table, stop);
-        entry_number(finder.way(table, stop, note))
-    } else {
-        15
-    }
-}
-
-fn key_for(map: &Map, keys: &[u16], segment: u16) -> u16
-    requires { length keys.now ≡ 1024 }
-    ensures { result ≡ key_for (head_for (layout map.now)) keys.now segment }
-{
-    if segment < 1024 && map.head(segment).is_some() {
-        keys[segment as usize]
-    } else {
-        0
-    }
-}
-
-fn head_byte(map: &Map, stops: &[u8], place: usize) -> u8
-    requires { (stops.now ≡ stops_of (layout map.now)) × (length stops.now ≤ 64) }
-    ensures { result ≡ head_byte (head_for (layout map.now)) stops.now place }
-{
-    if place < 5 {
-        map.width()
-    } else if place < 6 {
-        map.height()
-    } else if place < 7 {
-        stops.len() as u8
-    } else if place < 8 {
-        0
-    } else if place - 8 < stops.len() {
-        stops[place - 8]
-    } else {
-        0
-    }
-}
-
-fn way_byte<W: WayFinder>(map: &Map, finder: &W, stop: u8, place: usize) -> u8
-    ensures { result ≡ way_byte (entry_for (head_for (layout map.now)) (W.WayFinder.first finder.now) (W.WayFinder.way finder.now)) stop place }
-{
-    if place < 5 {
-        stop
-    } else if place < 8 {
-        0
-    } else if place < 136 {
-        let table = (2 * (place - 8)) as u8;
-        entry_for(map, finder, stop, table) * 16 + entry_for(map, finder, stop, table + 1)
-    } else {
-        0
-    }
+    way.map_or(15, |(side, _)| side.number())
 }
 
 fn key_half(place: usize, key: u16) -> u8
     ensures { result ≡ key_half place key }
 {
-    let [high, low] = key.to_be_bytes();
-    if place % 2 == 0 { high } else { low }
+    key.to_be_bytes()[place % 2]
 }
 
-fn key_byte(map: &Map, keys: &[u16], part: u8, place: usize) -> u8
-    requires { length keys.now ≡ 1024 }
-    ensures { result ≡ key_byte (key_for (head_for (layout map.now)) keys.now) part place }
-{
-    if place < 5 {
-        part
-    } else if place < 8 {
-        0
-    } else if place < 264 {
-        let segment = 128 * part as u16 + ((place - 8) / 2) as u16;
-        key_half(place, key_for(map, keys, segment))
-    } else {
-        0
-    }
-}
-
-/// What a block is to hold, by its number.
-pub(crate) fn content_of(stops: &[u8], number: u8) -> Content
-    requires { length stops.now ≤ 64 }
-    ensures { result ≡ content_of stops.now number }
-{
-    if number == 0 {
-        Content::Stops
-    } else if number as usize <= stops.len() {
-        Content::Ways {
-            stop: stops[number as usize - 1],
-        }
-    } else {
-        Content::Keys {
-            part: number - (stops.len() as u8 + 1),
+impl<W: WayFinder> Source<'_, W> {
+    /// The entry of a table for a stop.
+    fn entry(&self, stop: u8, table: u8) -> u8
+        ensures is { result ≡ entry_for (head_for (layout self.now.map.now)) (W.WayFinder.first self.now.finder.now) (W.WayFinder.way self.now.finder.now) stop table }
+        ensures small { result < 16 }
+    {
+        if self.map.has(table) && table != stop {
+            let note = self.finder.first_note(table, stop);
+            entry_number(self.finder.way(table, stop, note))
+        } else {
+            15
         }
     }
-}
 
-/// The byte at a place behind a block's first four bytes.
-pub(crate) fn content_byte<W: WayFinder>(
-    map: &Map,
-    finder: &W,
-    keys: &[u16],
-    stops: &[u8],
-    content: Content,
-    place: usize,
-) -> u8
-    requires { (length keys.now ≡ 1024) × ((stops.now ≡ stops_of (layout map.now)) × (length stops.now ≤ 64)) }
-    ensures { result ≡ content_byte (source_of (layout map.now) (W.WayFinder.first finder.now) (W.WayFinder.way finder.now) keys.now) content place }
-{
-    match content {
-        Content::Stops => head_byte(map, stops, place),
-        Content::Ways { stop } => way_byte(map, finder, stop, place),
-        Content::Keys { part } => key_byte(map, keys, part, place),
+    fn key(&self, segment: u16) -> u16
+        ensures { result ≡ key_for (head_for (layout self.now.map.now)) self.now.keys.now segment }
+    {
+        if segment < 1024 && self.map.head(segment).is_some() {
+            self.keys[segment as usize]
+        } else {
+            0
+        }
+    }
+
+    fn head_byte(&self, place: usize) -> u8
+        ensures { result ≡ head_byte (head_for (layout self.now.map.now)) (stops_of (layout self.now.map.now)) place }
+    {
+        let stops = self.stops.as_slice();
+        match place {
+            0..=4 => self.map.width(),
+            5 => self.map.height(),
+            6 => stops.len() as u8,
+            7 => 0,
+            _ => stops.get(place - 8).copied().unwrap_or(0),
+        }
+    }
+
+    fn way_byte(&self, stop: u8, place: usize) -> u8
+        ensures { result ≡ way_byte (entry_for (head_for (layout self.now.map.now)) (W.WayFinder.first self.now.finder.now) (W.WayFinder.way self.now.finder.now)) stop place }
+    {
+        match place {
+            0..=4 => stop,
+            8..=135 => {
+                let table = (2 * (place - 8)) as u8;
+                self.entry(stop, table) * 16 + self.entry(stop, table + 1)
+            }
+            _ => 0,
+        }
+    }
+
+    fn key_byte(&self, part: u8, place: usize) -> u8
+        ensures { result ≡ key_byte (key_for (head_for (layout self.now.map.now)) self.now.keys.now) part place }
+    {
+        match place {
+            0..=4 => part,
+            8..=263 => {
+                let segment = 128 * u16::from(part) + ((place - 8) / 2) as u16;
+                key_half(place, self.key(segment))
+            }
+            _ => 0,
+        }
+    }
+
+    /// How many blocks the file has.
+    pub(crate) fn block_count(&self) -> usize
+        ensures is { result ≡ length (stops_of (layout self.now.map.now)) + 9 }
+        ensures few { result ≤ 73 }
+    {
+        self.stops.len() + 9
+    }
+
+    /// What a block is to hold, by its number.
+    pub(crate) fn content_of(&self, number: u8) -> Content
+        ensures { result ≡ content_of (stops_of (layout self.now.map.now)) number }
+    {
+        let stops = self.stops.as_slice();
+        if number == 0 {
+            return Content::Stops;
+        }
+        match stops.get(usize::from(number) - 1) {
+            Some(&stop) => Content::Ways { stop },
+            None => Content::Keys {
+                part: number - (stops.len() as u8 + 1),
+            },
+        }
+    }
+
+    /// The byte at a place behind a block's first four bytes.
+    fn content_byte(&self, content: Content, place: usize) -> u8
+        ensures { result ≡ content_byte (source_of (layout self.now.map.now) (W.WayFinder.first self.now.finder.now) (W.WayFinder.way self.now.finder.now) self.now.keys.now) content place }
+    {
+        match content {
+            Content::Stops => self.head_byte(place),
+            Content::Ways { stop } => self.way_byte(stop, place),
+            Content::Keys { part } => self.key_byte(part, place),
+        }
+    }
+
+    /// The byte at a place of a block, before its last word.
+    pub(crate) fn block_byte(&self, content: Content, number: u8, place: usize) -> u8
+        ensures { result ≡ block_byte (source_of (layout self.now.map.now) (W.WayFinder.first self.now.finder.now) (W.WayFinder.way self.now.finder.now) self.now.keys.now) content number place }
+    {
+        match place {
+            0 => content.kind(),
+            1 => number,
+            2 | 3 => 0,
+            _ => self.content_byte(content, place),
+        }
     }
 }

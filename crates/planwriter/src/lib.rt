@@ -3,5 +3,6 @@
 
 mod bytes;
 pub mod rewrite;
+mod source;
 mod stops;
 pub mod write;

@@ -12,16 +12,13 @@ use map::map::Map;
 use orders::ranker::Ranker;
 use planfile::plan::WrittenPlan;
 use planfile::refusal::Refusal;
+use std::array;
 
 /// The keys of all segments.
 fn keys_of(plan: &WrittenPlan) -> [u16; 1024]
     ensures { result ≡ keys_in plan.now.file.now }
 {
-    let mut keys = [0; 1024];
-    for segment in 0..1024usize {
-        keys[segment] = plan.key(segment as u16);
-    }
-    keys
+    array::from_fn(|segment| plan.key(segment as u16))
 }
 
 /// Writes a plan again, on a map, with its own ways and keys. On a map of its size and stops, what

@@ -1,48 +1,30 @@
-ghost use Rattle.std.specs.Prelude.{◌≡◌, ◌+◌, ◌<◌, ◌≤◌, ◌++◌, length, take, drop, MatchResult, OnOk};
+ghost use Rattle.std.specs.Prelude.{◌≡◌, ◌++◌, length, drop, MatchResult, OnOk};
 ghost use Rattle.planfile.specs.Promises.{PlanFile};
 ghost use Rattle.map.specs.Layouts.{layout};
-ghost use Rattle.blocks.specs.Words.{closed};
 ghost use Rattle.planwriter.specs.Stops.{stops_of};
 ghost use Rattle.planwriter.specs.Promises.{ReadBack, WrittenAgain};
 ghost use Rattle.planwriter.specs.Files.{block_of, content_of, file_of, source_of, write_outcome};
 
-use crate::bytes::{content_byte, content_of};
-use crate::stops::stops_of;
+use crate::source::Source;
 use blocks::sum::word_sum;
 use map::map::Map;
 use planfile::refusal::Refusal;
+use std::array;
 use ways::finder::WayFinder;
 
-/// Sets the last word of a block so that its words add up.
-fn close(block: &mut [u8])
-    requires { length block.old ≡ 512 }
-    ensures { block.new ≡ closed (take 508 block.old) }
-{
-    let last = (0xFFFF_FFFF - word_sum(&block[0..508])).to_be_bytes();
-    block[508..512].copy_from_slice(&last);
-}
-
-/// Fills a block of the file, by its number.
-fn fill<W: WayFinder>(
-    map: &Map,
-    finder: &W,
-    keys: &[u16],
-    stops: &[u8],
-    number: u8,
-    block: &mut [u8],
-)
-    requires { (length keys.now ≡ 1024) × ((stops.now ≡ stops_of (layout map.now)) × ((length stops.now ≤ 64) × (length block.old ≡ 512))) }
-    ensures { block.new ≡ block_of (source_of (layout map.now) (W.WayFinder.first finder.now) (W.WayFinder.way finder.now) keys.now) (content_of (stops_of (layout map.now)) number) number }
-{
-    let content = content_of(stops, number);
-    block[0] = content.kind();
-    block[1] = number;
-    block[2] = 0;
-    block[3] = 0;
-    for place in 4..508 {
-        block[place] = content_byte(map, finder, keys, stops, content, place);
+impl<W: WayFinder> Source<'_, W> {
+    /// A block of the file, by its number: 508 bytes, and the word that sees to the sum.
+    fn block(&self, number: u8) -> [u8; 512]
+        ensures { result ≡ block_of (source_of (layout self.now.map.now) (W.WayFinder.first self.now.finder.now) (W.WayFinder.way self.now.finder.now) self.now.keys.now) (content_of (stops_of (layout self.now.map.now)) number) number }
+    {
+        let content = self.content_of(number);
+        let front: [u8; 508] = array::from_fn(|place| self.block_byte(content, number, place));
+        let last = (u32::MAX - word_sum(&front)).to_be_bytes();
+        let mut block = [0; 512];
+        block[..508].copy_from_slice(&front);
+        block[508..].copy_from_slice(&last);
+        block
     }
-    close(block);
 }
 
 /// Writes the plan's file into the buffer, and answers its length. What stands behind the file
@@ -60,25 +42,16 @@ pub fn write<W: WayFinder>(
     ensures back { OnOk result (ReadBack (source_of (layout map.now) (W.WayFinder.first finder.now) (W.WayFinder.way finder.now) keys.now) (file_of (source_of (layout map.now) (W.WayFinder.first finder.now) (W.WayFinder.way finder.now) keys.now))) }
     ensures again { OnOk result (WrittenAgain (layout map.now) (W.WayFinder.first finder.now) (W.WayFinder.way finder.now) keys.now) }
 {
-    if keys.len() != 1024 {
-        return Err(Refusal::WrongKeys);
-    }
-    let stops = stops_of(map);
-    let blocks = stops.count + 9;
-    let length = 512 * blocks;
+    let keys = keys.as_array::<1024>().ok_or(Refusal::WrongKeys)?;
+    let source = Source::new(map, finder, keys);
+    let length = 512 * source.block_count();
     if buffer.len() < length {
         return Err(Refusal::ShortBuffer);
     }
-    for k in 0..blocks {
+    // by place: of chunks that a loop writes, std does not say what the whole slice holds then
+    for k in 0..source.block_count() {
         let at = 512 * k;
-        fill(
-            map,
-            finder,
-            keys,
-            &stops.tables[0..stops.count],
-            k as u8,
-            &mut buffer[at..at + 512],
-        );
+        buffer[at..at + 512].copy_from_slice(&source.block(k as u8));
     }
     Ok(length)
 }

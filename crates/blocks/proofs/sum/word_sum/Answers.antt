@@ -1,19 +1,17 @@
-use Rattle.std.proofs.Common.{◌<◌, ◌≤◌, length, arith, rules, ltb-true}
-use Rattle.std.proofs.lemmas.List.{take_rest}
-use Rattle.blocks.proofs.Sums.{words_few, words_four, one_byte}
+use Rattle.std.proofs.Common.{◌≡◌, ◌/◌, map, length, refl, arith, rules}
+use Rattle.std.specs.List.{fold}
+use Rattle.std.specs.Int.{from_be_bytes, w32}
+use Rattle.std.specs.Simd.{first_chunks}
+use Rattle.std.proofs.iter.runs.Made.{chains}
+use Rattle.blocks.proofs.Sums.{added, sum_of_words, one_byte}
 use Rattle.blocks.proofs.sum.word_sum.Goals as goal
 
-pub loop-left-preserved : goal.loop-left-preserved
-loop-left-preserved c =
-    let left = c.loop-left.left.now in
-    let long : 4 ≤ length left = search rules in
-    (omega arith, simp take_rest (omega (arith, words_four left long)))
+pub returns-clause-is : goal.returns-clause-is
+returns-clause-is c =
+    let block = c.args.block.now in
+    let summed : c.fold.result ≡ fold added 0 (map (from_be_bytes w32) (first_chunks 4 (length block / 4) block)) = search (rules, chains) in
+    let all = sum_of_words (length block / 4) block 0 refl (omega arith) in
+    omega arith
 
-pub returns : goal.returns
-returns c =
-    let left = c.loop-left.left.now in
-    let short : length left < 4 = omega (arith, ltb-true) in
-    record {
-      is = omega (arith, words_few left short);
-      tells = λ i n d long bytes only same. one_byte i n c.args.block.now d (λ k. (c.type_inv.block k).fits) bytes long only same;
-    }
+pub returns-clause-tells : goal.returns-clause-tells
+returns-clause-tells c = λ i n d long bytes only same. one_byte i n c.args.block.now d (λ k. (c.type_inv.block k).fits) bytes long only same

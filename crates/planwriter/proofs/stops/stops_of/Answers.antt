@@ -1,30 +1,30 @@
-use Rattle.std.proofs.Common.{sym, refl, arith}
+use Rattle.std.proofs.Common.{◌+◌, sym, ap, ◌∙◌, arith}
 use Rattle.map.specs.Layouts.{layout}
-use Rattle.planwriter.proofs.StopLists.{found_none, has_room, found_more, found_other, found_all}
+use Rattle.planwriter.proofs.StopLists.{Found, has_room, found_more, found_other, found_all}
 use Rattle.planwriter.proofs.stops.stops_of.Goals as goal
 use Rattle.planwriter.proofs.stops.stops_of.Goals.{then-is_stop, else-is_stop}
 
-pub loop-table-init : goal.loop-table-init
-loop-table-init c = found_none (layout c.args.map.now) c.stop_count-most.ensures.lawful.few _ refl
-
-pub bounds-tables-count : goal.bounds-tables-count
-bounds-tables-count c = has_room (layout c.args.map.now) c.loop-table.tables c.loop-table.count c.loop-table.table c.loop-table-test.true (sym c.if-is_stop.ensures) c.loop-table.invariant
+pub push-requires : goal.push-requires
+push-requires c = (
+  omega arith,
+  has_room (layout c.args.map.now) c.loop-table.stops.items c.loop-table.table c.stop_count-most.ensures.lawful.few (omega arith) (sym c.if-is_stop.ensures) c.loop-table.invariant,
+)
 
 pub loop-table-preserved : goal.loop-table-preserved
 loop-table-preserved c =
+    let floor = layout c.args.map.now in
     elim c.if-is_stop.branch [
-      | then-is_stop w ↦
-          found_more (layout c.args.map.now) c.loop-table.tables _ c.loop-table.count _ c.loop-table.table c.loop-table-test.true (sym w.if-is_stop.ensures) w.tables-is w.count-is c.loop-table.invariant
-      | else-is_stop w ↦
-          found_other (layout c.args.map.now) c.loop-table.tables _ c.loop-table.count _ c.loop-table.table c.loop-table-test.true (sym w.if-is_stop.ensures) w.tables-is w.count-is c.loop-table.invariant
+      | then-is_stop w ↦ found_more floor c.loop-table.stops.items _ c.loop-table.table (omega arith) (sym w.if-is_stop.ensures) (ap (λ s. s.items) w.stops-is ∙ w.push.ensures.items) c.loop-table.invariant
+      | else-is_stop w ↦ found_other floor c.loop-table.stops.items _ c.loop-table.table (omega arith) (sym w.if-is_stop.ensures) (ap (λ s. s.items) w.stops-is) c.loop-table.invariant
     ]
 
-pub returns : goal.returns
-returns c =
-    let f = c.loop-table.invariant in
-    record {
-      are = found_all (layout c.args.map.now) c.loop-table.tables c.loop-table.count c.loop-table.table c.loop-table-test.false f;
-      few = omega (arith, f.small);
-      long = f.long;
-      lawful = c.stop_count-most.ensures.lawful;
-    }
+-- the loop ends after the last table
+pub returns-after-is_stop-clause-are : goal.returns-after-is_stop-clause-are
+returns-after-is_stop-clause-are c =
+    let floor = layout c.args.map.now in
+    let next : Found floor c.if-is_stop.stops.items (c.loop-table.table + 1) =
+    elim c.if-is_stop.branch [
+      | then-is_stop w ↦ found_more floor c.loop-table.stops.items _ c.loop-table.table (omega arith) (sym w.if-is_stop.ensures) (ap (λ s. s.items) w.stops-is ∙ w.push.ensures.items) c.loop-table.invariant
+      | else-is_stop w ↦ found_other floor c.loop-table.stops.items _ c.loop-table.table (omega arith) (sym w.if-is_stop.ensures) (ap (λ s. s.items) w.stops-is) c.loop-table.invariant
+    ] in
+    found_all floor c.if-is_stop.stops.items (c.loop-table.table + 1) (omega arith) next

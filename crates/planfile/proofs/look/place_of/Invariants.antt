@@ -1,7 +1,0 @@
-use Rattle.std.proofs.Common.{◌≡◌, ◌-◌, get_or}
-use Rattle.planfile.specs.Plans.{seek, place_of}
-use Rattle.planfile.proofs.look.place_of.Given as goal
-
--- the stops that are left decide
-abbrev pub invariant-loop-i : goal.invariant-loop-i
-invariant-loop-i l = seek l.file l.table (get_or l.file 6 0 - l.i) l.i ≡ place_of l.file l.table
