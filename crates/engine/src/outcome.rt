@@ -116,6 +116,7 @@ impl fmt::Display for Refused {
 
     fn fmt<W: fmt::Write>(&self, f: &mut fmt::Formatter<W>) -> fmt::Result {
         match self {
+            // Two arms with one text: the refusals are of different types.
             Refused::ByMap(refusal) => write!(f, "refused {}", refusal.number()),
             Refused::ByDetour(refusal) => write!(f, "refused {}", refusal.number()),
             Refused::ByCheck(refusal) => write!(

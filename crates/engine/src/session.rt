@@ -36,6 +36,7 @@ impl Session {
         ensures floor { self.new.store.floor ≡ line_floor self.old.store (call_of (texts words.now)) }
         ensures counts { self.new.tally ≡ counted self.old.tally result }
     {
+        // Not `?`, since an error is counted too.
         let answer = match Call::read(words) {
             Ok(call) => self.store.make(call),
             Err(fault) => Err(fault.into()),

@@ -44,13 +44,10 @@ each_table (w ∷ ws) = then (table_of w) (λ t. into (λ ts. t ∷ ts) (each_ta
 abbrev pub tables_of : ℕ → List (List ℕ) → Result (List ℕ) Fault
 tables_of n ws = cond (length ws == n) (each_table ws) (Err WrongWords)
 
-abbrev pub with_none : {B : Type 0} → Result B Fault → List (List ℕ) → Result B Fault
-with_none r [] = r
-with_none r (w ∷ ws) = Err WrongWords
-
 abbrev pub one_segment : List (List ℕ) → Result ℕ Fault
 one_segment [] = Err WrongWords
-one_segment (w ∷ ws) = with_none (segment_of w) ws
+one_segment (w ∷ []) = segment_of w
+one_segment (v ∷ w ∷ ws) = Err WrongWords
 
 -- what is closed or reopened is a table or a segment
 abbrev pub part_by : List ℕ → List (List ℕ) → Result Part Fault

@@ -7,7 +7,7 @@ use crate::call::Fault;
 const OVER: u32 = 65_536;
 
 /// What a word of decimal digits is worth; what is larger counts as 65,536.
-// Not `parse`, which takes a sign too, and tells a number too large as no number.
+// Not `parse`, which takes a sign too. A loop: what `try_fold` gives was left unproved.
 fn value_of(word: &str) -> Option<u32>
     ensures { result ≡ capped (number_of word.now) }
 {
