@@ -109,34 +109,44 @@ fn write_columns<W: fmt::Write>(map: &Map, f: &mut fmt::Formatter<W>) -> fmt::Re
     f.write_str("\n")
 }
 
-fn write_tables<W: fmt::Write>(scene: Scene<'_>, row: u8, f: &mut fmt::Formatter<W>) -> fmt::Result
-    requires { row < 16 }
+/// What is drawn of each table in the row: what is before it, and its mark.
+fn write_row<'a, W: fmt::Write, F: Fn(u8) -> (&'a str, &'a str)>(
+    map: &Map,
+    row: u8,
+    drawn: F,
+    f: &mut fmt::Formatter<W>,
+) -> fmt::Result
+    requires row { row < 16 }
+    requires drawn { F.IsAlwaysCallable drawn }
 {
-    write!(f, "{row:>3}  ")?;
     for column in 0..16u8 {
         let table = 16 * row + column;
-        if scene.map.has(table) {
-            if column > 0 {
-                f.write_str(westward(scene, table))?;
-            }
-            f.write_str(cell(scene.map, table))?;
+        if map.has(table) {
+            let (before, mark) = drawn(table);
+            f.write_str(before)?;
+            f.write_str(mark)?;
         }
     }
     f.write_str("\n")
+}
+
+fn write_tables<W: fmt::Write>(scene: Scene<'_>, row: u8, f: &mut fmt::Formatter<W>) -> fmt::Result
+    requires { row < 16 }
+{
+    write!(f, "{row:>3}")?;
+    write_row(
+        scene.map,
+        row,
+        |table| (westward(scene, table), cell(scene.map, table)),
+        f,
+    )
 }
 
 fn write_links<W: fmt::Write>(scene: Scene<'_>, row: u8, f: &mut fmt::Formatter<W>) -> fmt::Result
     requires { row < 16 }
 {
     f.write_str("   ")?;
-    for column in 0..16u8 {
-        let table = 16 * row + column;
-        if scene.map.has(table) {
-            f.write_str("  ")?;
-            f.write_str(southward(scene, table))?;
-        }
-    }
-    f.write_str("\n")
+    write_row(scene.map, row, |table| ("  ", southward(scene, table)), f)
 }
 
 /// The tray on the segment, where there is one, with the tables that it goes from and to.
