@@ -1,5 +1,6 @@
 -- What each call of a script answers.
 use Rattle.std.specs.Prelude.{Some, None, Ok, Err, Option, Result}
+use Rattle.std.specs.Option.{option_map}
 use Rattle.map.specs.declared.map.Map.{Map}
 use Rattle.map.specs.declared.refusal.Refusal.{Refusal}
 use Rattle.map.specs.Layouts.{Layout, layout}
@@ -36,8 +37,7 @@ use Rattle.engine.specs.Uses.{floor_answer}
 
 -- the map of a store as plain data, where there is one
 abbrev pub map_of : Option Map → Option Layout
-map_of None = None
-map_of (Some m) = Some (layout m)
+map_of o = option_map layout o
 
 -- the map's own answer to each change
 abbrev pub changed : Layout → Change → Result Layout Refusal

@@ -8,6 +8,7 @@ const OVER: u32 = 65_536;
 
 /// What a word of decimal digits is worth; what is larger counts as 65,536.
 // Not `parse`, which takes a sign too. A loop: what `try_fold` gives was left unproved.
+#[tactic(auto, using(crate::proofs::Digits::begins))]
 fn value_of(word: &str) -> Option<u32>
     ensures { result ≡ capped (number_of word.now) }
 {

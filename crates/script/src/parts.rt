@@ -23,6 +23,7 @@ pub(crate) fn read_nothing(words: &[&str]) -> Result<(), Fault>
 }
 
 /// As many tables as are wanted, and no other word.
+#[tactic(auto, using(crate::proofs::Tables::goes_on, crate::proofs::Tables::ends))]
 pub(crate) fn read_tables<const N: usize>(words: &[&str]) -> Result<[u8; N], Fault>
     ensures { result ≡ tables_of N (texts words.now) }
 {
