@@ -1,5 +1,6 @@
 -- The store that each call of a script leaves.
 use Rattle.std.specs.Prelude.{◌≡◌, ℕ, Some, None, Ok, Err, Option, Result}
+use Rattle.std.specs.Option.{option_map}
 use Rattle.map.specs.declared.map.Map.{Map}
 use Rattle.map.specs.declared.side.Side.{Side}
 use Rattle.map.specs.declared.refusal.Refusal.{Refusal}
@@ -55,8 +56,7 @@ new_map_else (Err e) old = old
 
 -- what the check said no longer counts once the map or the way-finder is another
 abbrev pub unchecked_plan : Option Plan → Option Plan
-unchecked_plan None = None
-unchecked_plan (Some p) = Some (with_finder p p.finder)
+unchecked_plan o = option_map (λ p. with_finder p p.finder) o
 
 abbrev pub unchecked_if : Result Layout Refusal → Option Plan → Option Plan
 unchecked_if (Ok q) o = unchecked_plan o

@@ -1,6 +1,5 @@
 pub mod Finders
 pub mod Plans
-pub mod Outcomes
 pub mod Texts
 pub mod Uses
 pub mod Answers

@@ -1,9 +1,9 @@
 -- Which lines are counted as what, and how the counts are told.
 use Rattle.std.specs.Prelude.{ℕ, ◌+◌, ◌-◌, ◌^◌, min, cond, List, ◌++◌, Ok, Err, codes, decimal, Result, ◌==◌}
 use Rattle.engine.specs.declared.outcome.Outcome.{Outcome}
-use Rattle.engine.specs.declared.outcome.Wrong.{Wrong}
+use Rattle.engine.specs.declared.outcome.Failure.{Failure}
+use Rattle.engine.specs.declared.outcome.Failure.TheVariants.{Refused, Wrong}
 use Rattle.engine.specs.declared.tally.Tally.{Tally}
-use Rattle.engine.specs.Outcomes.{is_refusal}
 
 -- a count that has reached the largest number of 64 bits stays there
 abbrev pub one_more : ℕ → ℕ
@@ -13,9 +13,10 @@ abbrev pub none_yet : Tally
 none_yet = record { calls = 0; refused = 0; errors = 0 }
 
 -- a refused call is a call, and a bad line is none
-abbrev pub counted : Tally → Result Outcome Wrong → Tally
-counted t (Ok o) = record { calls = one_more t.calls; refused = cond (is_refusal o) (one_more t.refused) t.refused; errors = t.errors }
-counted t (Err w) = record { calls = t.calls; refused = t.refused; errors = one_more t.errors }
+abbrev pub counted : Tally → Result Outcome Failure → Tally
+counted t (Ok o) = record { calls = one_more t.calls; refused = t.refused; errors = t.errors }
+counted t (Err (Refused e)) = record { calls = one_more t.calls; refused = one_more t.refused; errors = t.errors }
+counted t (Err (Wrong w)) = record { calls = t.calls; refused = t.refused; errors = one_more t.errors }
 
 -- errors are told only where there are some
 abbrev pub tally_text : Tally → List ℕ

@@ -7,7 +7,7 @@ use Rattle.trays.specs.Refusals as OfTrays
 use Rattle.engine.specs.declared.outcome.Refused as Refusals
 use Rattle.engine.specs.declared.outcome.Refused.TheVariants.{ByMap, ByDetour, ByCheck, ByFloor}
 use Rattle.engine.specs.declared.outcome.Outcome.{Outcome}
-use Rattle.engine.specs.declared.outcome.Outcome.TheVariants.{Done, Drawn, Refused, Passed, LetIn, Advanced, SegmentsLeft, Seen, Counted}
+use Rattle.engine.specs.declared.outcome.Outcome.TheVariants.{Done, Drawn, Passed, LetIn, Advanced, SegmentsLeft, Seen, Counted}
 
 -- a number, with a word before it
 abbrev pub field : List ℕ → ℕ → List ℕ
@@ -35,7 +35,6 @@ refused_text (ByFloor e) = held_and_wanted (OfTrays.refusal_number e) (OfTrays.r
 abbrev pub outcome_text : Outcome → List ℕ
 outcome_text Done = codes "ok"
 outcome_text Drawn = codes "ok"
-outcome_text (Refused e) = refused_text e
 outcome_text (Passed a) =
     codes "pass: pairs " ++ (decimal a.pairs
     ++ (codes ", segments " ++ (decimal a.segments

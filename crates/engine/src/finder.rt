@@ -10,6 +10,7 @@ use ways::finder::WayFinder;
 use ways::rows::RowFirst;
 
 /// A plan that has a name: a way-finder, and its ranker.
+// An enum, since a script says while it runs which plan is meant, and there is no heap for a box.
 #[derive(Clone, Copy)]
 pub enum Named {
     ByRows(RowFirst),
@@ -50,6 +51,7 @@ impl Ranker for Named {
 }
 
 /// The way-finder of a plan: the named plan's, with up to three detours, one over the other.
+// A variant for each number of detours, since a box in a detour would need the heap.
 #[derive(Clone, Copy)]
 pub enum Finder {
     Bare(Named),

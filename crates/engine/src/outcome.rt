@@ -1,5 +1,7 @@
 ghost use Rattle.std.specs.Prelude.{◌≡◌, Some};
-ghost use Rattle.engine.specs.Outcomes.{is_refusal};
+ghost use Rattle.engine.specs.declared.outcome.Refused.TheVariants.{ByMap, ByDetour, ByCheck, ByFloor};
+ghost use Rattle.engine.specs.declared.outcome.Wrong.TheVariants.{Said};
+ghost use Rattle.engine.specs.declared.outcome.Failure.TheVariants as Failures;
 ghost use Rattle.engine.specs.Texts.{outcome_text, refused_text};
 
 use detour::refusal::Refusal as ViaRefusal;
@@ -9,15 +11,15 @@ use plancheck::pass::Pass;
 use routes::refusal::Refusal as RouteRefusal;
 use script::call::Fault;
 use std::fmt;
+use thiserror::Error;
 use trays::refusal::Refusal as TrayRefusal;
 use trays::tray::Tray;
 
-/// What a call answered.
+/// What a call answered that was done.
 #[derive(Clone, Copy)]
 pub enum Outcome {
     Done,
     Drawn,
-    Refused(Refused),
     Passed(Pass),
     LetIn(Entered),
     Advanced(Moved),
@@ -35,26 +37,78 @@ pub enum Refused {
     ByFloor(TrayRefusal),
 }
 
-impl Outcome {
-    pub(crate) fn is_refusal(self) -> bool
-        ensures { result ≡ is_refusal self }
-    {
-        match self {
-            Outcome::Refused(_) => true,
-            _ => false,
-        }
+/// Why a line is an error in place of a call.
+#[derive(Clone, Copy, Debug, Error)]
+pub enum Wrong {
+    #[error(transparent)]
+    Said(Fault),
+    #[error("needs a map")]
+    NoMap,
+    #[error("needs a plan")]
+    NoPlan,
+    #[error("needs a detour")]
+    NoDetour,
+    #[error("needs a floor")]
+    NoFloor,
+    #[error("no more than three detours, one over the other")]
+    ThreeDetours,
+}
+
+/// Why what a line asks for was not done.
+#[derive(Clone, Copy)]
+pub enum Failure {
+    /// It is a call, and was turned down.
+    Refused(Refused),
+    /// It is no call, or one that lacks something.
+    Wrong(Wrong),
+}
+
+impl From<MapRefusal> for Failure {
+    ghost from_gives = { λ e f. f ≡ Failures.Refused (ByMap e) };
+
+    fn from(refusal: MapRefusal) -> Failure {
+        Failure::Refused(Refused::ByMap(refusal))
     }
 }
 
-/// Why a line is an error in place of a call.
-#[derive(Clone, Copy)]
-pub enum Wrong {
-    Said(Fault),
-    NoMap,
-    NoPlan,
-    NoDetour,
-    NoFloor,
-    ThreeDetours,
+impl From<ViaRefusal> for Failure {
+    ghost from_gives = { λ e f. f ≡ Failures.Refused (ByDetour e) };
+
+    fn from(refusal: ViaRefusal) -> Failure {
+        Failure::Refused(Refused::ByDetour(refusal))
+    }
+}
+
+impl From<RouteRefusal> for Failure {
+    ghost from_gives = { λ e f. f ≡ Failures.Refused (ByCheck e) };
+
+    fn from(refusal: RouteRefusal) -> Failure {
+        Failure::Refused(Refused::ByCheck(refusal))
+    }
+}
+
+impl From<TrayRefusal> for Failure {
+    ghost from_gives = { λ e f. f ≡ Failures.Refused (ByFloor e) };
+
+    fn from(refusal: TrayRefusal) -> Failure {
+        Failure::Refused(Refused::ByFloor(refusal))
+    }
+}
+
+impl From<Wrong> for Failure {
+    ghost from_gives = { λ w f. f ≡ Failures.Wrong w };
+
+    fn from(wrong: Wrong) -> Failure {
+        Failure::Wrong(wrong)
+    }
+}
+
+impl From<Fault> for Failure {
+    ghost from_gives = { λ e f. f ≡ Failures.Wrong (Said e) };
+
+    fn from(fault: Fault) -> Failure {
+        Failure::Wrong(Wrong::Said(fault))
+    }
 }
 
 impl fmt::Display for Refused {
@@ -62,36 +116,27 @@ impl fmt::Display for Refused {
 
     fn fmt<W: fmt::Write>(&self, f: &mut fmt::Formatter<W>) -> fmt::Result {
         match self {
-            Refused::ByMap(refusal) => {
-                let number = refusal.number();
-                write!(f, "refused {number}")
-            }
-            Refused::ByDetour(refusal) => {
-                let number = refusal.number();
-                write!(f, "refused {number}")
-            }
-            Refused::ByCheck(refusal) => {
-                let number = refusal.reason.number();
-                let origin = refusal.origin;
-                let destination = refusal.destination;
-                let step = refusal.step;
-                let held = refusal.held;
-                let wanted = refusal.wanted;
-                write!(
+            // Two arms with one text: the refusals are of different types.
+            Refused::ByMap(refusal) => write!(f, "refused {}", refusal.number()),
+            Refused::ByDetour(refusal) => write!(f, "refused {}", refusal.number()),
+            Refused::ByCheck(refusal) => write!(
+                f,
+                "refused {}: origin {}, destination {}, step {}, held {}, wanted {}",
+                refusal.reason.number(),
+                refusal.origin,
+                refusal.destination,
+                refusal.step,
+                refusal.held,
+                refusal.wanted
+            ),
+            Refused::ByFloor(refusal) => match refusal.segments() {
+                None => write!(f, "refused {}", refusal.number()),
+                Some((held, wanted)) => write!(
                     f,
-                    "refused {number}: origin {origin}, destination {destination}, step {step}, held {held}, wanted {wanted}"
-                )
-            }
-            Refused::ByFloor(refusal) => {
-                let number = refusal.number();
-                match refusal.segments() {
-                    None => write!(f, "refused {number}"),
-                    Some((held, wanted)) => write!(
-                        f,
-                        "refused {number}: held {held}, wanted {wanted}"
-                    ),
-                }
-            }
+                    "refused {}: held {held}, wanted {wanted}",
+                    refusal.number()
+                ),
+            },
         }
     }
 }
@@ -102,60 +147,32 @@ impl fmt::Display for Outcome {
     fn fmt<W: fmt::Write>(&self, f: &mut fmt::Formatter<W>) -> fmt::Result {
         match self {
             Outcome::Done | Outcome::Drawn => write!(f, "ok"),
-            Outcome::Refused(refused) => write!(f, "{refused}"),
-            Outcome::Passed(pass) => {
-                let pairs = pass.pairs;
-                let segments = pass.segments;
-                let longest = pass.longest;
-                write!(
-                    f,
-                    "pass: pairs {pairs}, segments {segments}, longest {longest}"
-                )
-            }
-            Outcome::LetIn(entered) => {
-                let tray = entered.tray;
-                let segment = entered.segment;
-                write!(f, "tray {tray}, segment {segment}")
-            }
-            Outcome::Advanced(moved) => {
-                let tray = moved.tray;
-                let advances = moved.advances;
-                let segment = moved.segment;
-                write!(f, "tray {tray}, advances {advances}, segment {segment}")
-            }
+            Outcome::Passed(pass) => write!(
+                f,
+                "pass: pairs {}, segments {}, longest {}",
+                pass.pairs, pass.segments, pass.longest
+            ),
+            Outcome::LetIn(entered) => write!(
+                f,
+                "tray {}, segment {}",
+                entered.tray, entered.segment
+            ),
+            Outcome::Advanced(moved) => write!(
+                f,
+                "tray {}, advances {}, segment {}",
+                moved.tray, moved.advances, moved.segment
+            ),
             Outcome::SegmentsLeft(left) => write!(f, "{left}"),
-            Outcome::Seen(tray) => {
-                let number = tray.number;
-                let destination = tray.destination;
-                let note = tray.note;
-                let advances = tray.advances;
-                write!(
-                    f,
-                    "tray {number}, destination {destination}, note {note}, advances {advances}"
-                )
-            }
-            Outcome::Counted(counts) => {
-                let entered = counts.entered;
-                let delivered = counts.delivered;
-                let on_floor = counts.on_floor;
-                write!(f, "in {entered}, delivered {delivered}, floor {on_floor}")
-            }
+            Outcome::Seen(tray) => write!(
+                f,
+                "tray {}, destination {}, note {}, advances {}",
+                tray.number, tray.destination, tray.note, tray.advances
+            ),
+            Outcome::Counted(counts) => write!(
+                f,
+                "in {}, delivered {}, floor {}",
+                counts.entered, counts.delivered, counts.on_floor
+            ),
         }
-    }
-}
-
-impl fmt::Display for Wrong {
-    fn fmt<W: fmt::Write>(&self, f: &mut fmt::Formatter<W>) -> fmt::Result {
-        f.write_str(match self {
-            Wrong::Said(Fault::NoSuchCall) => "no such call",
-            Wrong::Said(Fault::WrongWords) => "wrong number of words",
-            Wrong::Said(Fault::NoNumber) => "not a number",
-            Wrong::Said(Fault::TooLarge) => "number out of range",
-            Wrong::NoMap => "needs a map",
-            Wrong::NoPlan => "needs a plan",
-            Wrong::NoDetour => "needs a detour",
-            Wrong::NoFloor => "needs a floor",
-            Wrong::ThreeDetours => "no more than three detours, one over the other",
-        })
     }
 }

@@ -1,5 +1,5 @@
 ghost use Rattle.std.specs.Prelude.{◌≡◌};
-ghost use Rattle.engine.specs.Plans.{new_plan, via_changed, via_answer, via_later, with_finder, judged};
+ghost use Rattle.engine.specs.Plans.{new_plan, via_changed, via_answer, via_later, with_finder};
 ghost use Rattle.detour.specs.Vias.{told, after};
 ghost use Rattle.detour.specs.Detours.{with_vias};
 
@@ -30,30 +30,13 @@ impl Plan {
         }
     }
 
-    /// With another way-finder, of which the check said nothing yet.
-    pub(crate) fn with_finder(self, finder: Finder) -> Plan
-        ensures { result ≡ with_finder self finder }
-    {
-        Plan {
-            named: self.named,
-            finder,
-            verdict: None,
-        }
-    }
-
+    /// For another map: the check said nothing of this one yet.
     pub(crate) fn unchecked(self) -> Plan
         ensures { result ≡ with_finder self self.finder }
     {
-        self.with_finder(self.finder)
-    }
-
-    pub(crate) fn judged(self, verdict: Result<Pass, Refusal>) -> Plan
-        ensures { result ≡ judged self verdict }
-    {
         Plan {
-            named: self.named,
-            finder: self.finder,
-            verdict: Some(verdict),
+            verdict: None,
+            ..self
         }
     }
 }
@@ -74,23 +57,11 @@ impl Finder {
         ensures answer { result ≡ via_answer self.old change }
         ensures later { self.new ≡ via_later self.old change }
     {
-        match *self {
+        match self {
             Finder::Bare(_) => None,
-            Finder::Once(mut detour) => {
-                let answer = change_in(&mut detour, change);
-                *self = Finder::Once(detour);
-                Some(answer)
-            }
-            Finder::Twice(mut detour) => {
-                let answer = change_in(&mut detour, change);
-                *self = Finder::Twice(detour);
-                Some(answer)
-            }
-            Finder::Thrice(mut detour) => {
-                let answer = change_in(&mut detour, change);
-                *self = Finder::Thrice(detour);
-                Some(answer)
-            }
+            Finder::Once(detour) => Some(change_in(detour, change)),
+            Finder::Twice(detour) => Some(change_in(detour, change)),
+            Finder::Thrice(detour) => Some(change_in(detour, change)),
         }
     }
 }

@@ -6,7 +6,7 @@ ghost use Rattle.engine.specs.Laters.{line_map, LinePlan, line_floor};
 ghost use Rattle.engine.specs.Sessions.{new_session};
 ghost use Rattle.engine.specs.Tallies.{counted};
 
-use crate::outcome::{Outcome, Wrong};
+use crate::outcome::{Failure, Outcome};
 use crate::store::Store;
 use crate::tally::Tally;
 use script::call::Call;
@@ -29,16 +29,17 @@ impl Session {
     }
 
     /// Makes the call that the words of a line ask for.
-    pub fn make(&mut self, words: &[&str]) -> Result<Outcome, Wrong>
+    pub fn make(&mut self, words: &[&str]) -> Result<Outcome, Failure>
         ensures answer { result ≡ line_answer self.old.store (call_of (texts words.now)) }
         ensures map { map_of self.new.store.map ≡ line_map (map_of self.old.store.map) (call_of (texts words.now)) }
         ensures plan { LinePlan self.old.store (call_of (texts words.now)) self.new.store.plan }
         ensures floor { self.new.store.floor ≡ line_floor self.old.store (call_of (texts words.now)) }
         ensures counts { self.new.tally ≡ counted self.old.tally result }
     {
+        // Not `?`, since an error is counted too.
         let answer = match Call::read(words) {
             Ok(call) => self.store.make(call),
-            Err(fault) => Err(Wrong::Said(fault)),
+            Err(fault) => Err(fault.into()),
         };
         self.tally.count(answer);
         answer

@@ -1,7 +1,7 @@
-ghost use Rattle.std.specs.Prelude.{◌≡◌, ◌+◌, ◌-◌, ◌^◌, min, Some};
-ghost use Rattle.engine.specs.Tallies.{one_more, counted, none_yet, tally_text};
+ghost use Rattle.std.specs.Prelude.{◌≡◌, Some};
+ghost use Rattle.engine.specs.Tallies.{counted, none_yet, tally_text};
 
-use crate::outcome::{Outcome, Wrong};
+use crate::outcome::{Failure, Outcome};
 use std::fmt;
 
 /// How many lines were calls, how many of these were refused, and how many lines were errors.
@@ -10,12 +10,6 @@ pub struct Tally {
     calls: u64,
     refused: u64,
     errors: u64,
-}
-
-fn one_more(count: u64) -> u64
-    ensures { result ≡ one_more count }
-{
-    count.saturating_add(1)
 }
 
 impl Tally {
@@ -29,17 +23,16 @@ impl Tally {
         }
     }
 
-    pub(crate) fn count(&mut self, answer: Result<Outcome, Wrong>)
+    pub(crate) fn count(&mut self, answer: Result<Outcome, Failure>)
         ensures { self.new ≡ counted self.old answer }
     {
         match answer {
-            Err(_) => self.errors = one_more(self.errors),
-            Ok(outcome) => {
-                self.calls = one_more(self.calls);
-                if outcome.is_refusal() {
-                    self.refused = one_more(self.refused);
-                }
+            Ok(_) => self.calls = self.calls.saturating_add(1),
+            Err(Failure::Refused(_)) => {
+                self.calls = self.calls.saturating_add(1);
+                self.refused = self.refused.saturating_add(1);
             }
+            Err(Failure::Wrong(_)) => self.errors = self.errors.saturating_add(1),
         }
     }
 }
@@ -48,13 +41,14 @@ impl fmt::Display for Tally {
     ghost output = { λ t. Some (tally_text t) };
 
     fn fmt<W: fmt::Write>(&self, f: &mut fmt::Formatter<W>) -> fmt::Result {
-        let calls = self.calls;
-        let refused = self.refused;
-        let errors = self.errors;
-        if errors == 0 {
-            write!(f, "calls {calls}, refused {refused}")
+        if self.errors == 0 {
+            write!(f, "calls {}, refused {}", self.calls, self.refused)
         } else {
-            write!(f, "calls {calls}, refused {refused}, errors {errors}")
+            write!(
+                f,
+                "calls {}, refused {}, errors {}",
+                self.calls, self.refused, self.errors
+            )
         }
     }
 }

@@ -15,8 +15,6 @@ use Rattle.engine.specs.declared.plan.Plan.{Plan}
 use Rattle.engine.specs.declared.session.Session.{Session}
 use Rattle.engine.specs.Tallies.{tally_text}
 use Rattle.reports.specs.declared.account.Figures.{Figures}
-use Rattle.reports.specs.declared.account.Said.{Said}
-use Rattle.reports.specs.declared.account.Said.TheVariants.{NotChecked, Passes, RefusedBy}
 use Rattle.reports.specs.Numbers.{how_many_below}
 
 -- the map's size, its stops, and how much of it is closed
@@ -48,19 +46,14 @@ name_text (ByTree w) false = codes "tree"
 name_text (ByTree w) true = codes "tree with detour"
 
 -- what the check said of the map and the plan as they are now
-abbrev pub said_of : Option (Result Pass Refusal) → Said
-said_of None = NotChecked
-said_of (Some (Ok a)) = Passes
-said_of (Some (Err e)) = RefusedBy (reason_number e.reason)
-
-abbrev pub said_text : Said → List ℕ
-said_text NotChecked = codes "not checked"
-said_text Passes = codes "pass"
-said_text (RefusedBy n) = codes "refused " ++ decimal n
+abbrev pub verdict_text : Option (Result Pass Refusal) → List ℕ
+verdict_text None = codes "not checked"
+verdict_text (Some (Ok a)) = codes "pass"
+verdict_text (Some (Err e)) = codes "refused " ++ decimal (reason_number e.reason)
 
 abbrev pub plan_text : Option Plan → List ℕ
 plan_text None = codes "none"
-plan_text (Some p) = name_text p.named (has_detour p.finder) ++ (codes ": " ++ said_text (said_of p.verdict))
+plan_text (Some p) = name_text p.named (has_detour p.finder) ++ (codes ": " ++ verdict_text p.verdict)
 
 abbrev pub counts_text : ℕ × ℕ × ℕ → List ℕ
 counts_text p =

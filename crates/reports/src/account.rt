@@ -1,5 +1,5 @@
 ghost use Rattle.std.specs.Prelude.{◌≡◌, Some};
-ghost use Rattle.reports.specs.Accounts.{account_text, figures_of, figures_text, map_text, plan_text, said_of, said_text, floor_text, has_detour, name_text};
+ghost use Rattle.reports.specs.Accounts.{account_text, figures_of, figures_text, map_text, plan_text, verdict_text, floor_text, has_detour, name_text};
 ghost use Rattle.map.specs.Layouts.{layout, table_closed, segment_closed};
 ghost use Rattle.reports.specs.Numbers.{how_many_below};
 
@@ -22,12 +22,12 @@ struct MapTold<'a>(&'a Option<Map>);
 
 /// What is told of a map.
 #[derive(Clone, Copy)]
-pub struct Figures {
+struct Figures {
     width: u8,
     height: u8,
     stops: u8,
-    tables: u16,
-    segments: u16,
+    tables: usize,
+    segments: usize,
 }
 
 /// The store's plan, told in a line.
@@ -36,11 +36,7 @@ struct PlanTold<'a>(&'a Option<Plan>);
 
 /// What the check said of the map and the plan as they are now.
 #[derive(Clone, Copy)]
-pub enum Said {
-    NotChecked,
-    Passes,
-    RefusedBy(u8),
-}
+struct VerdictTold(Option<Result<Pass, Refusal>>);
 
 /// The trays of the store's floor, told in a line.
 #[derive(Clone, Copy)]
@@ -50,13 +46,13 @@ impl fmt::Display for Account<'_> {
     ghost output = { λ a. Some (account_text a.0.now) };
 
     fn fmt<W: fmt::Write>(&self, f: &mut fmt::Formatter<W>) -> fmt::Result {
-        let tally = self.0.tally;
-        let map = MapTold(&self.0.store.map);
-        let plan = PlanTold(&self.0.store.plan);
-        let floor = FloorTold(&self.0.store.floor);
+        let Session { store, tally } = self.0;
         write!(
             f,
-            "\naccount\n{tally}\nmap {map}\nplan {plan}\nfloor: {floor}\n"
+            "\naccount\n{tally}\nmap {}\nplan {}\nfloor: {}\n",
+            MapTold(&store.map),
+            PlanTold(&store.plan),
+            FloorTold(&store.floor)
         )
     }
 }
@@ -67,10 +63,7 @@ impl fmt::Display for MapTold<'_> {
     fn fmt<W: fmt::Write>(&self, f: &mut fmt::Formatter<W>) -> fmt::Result {
         match self.0.as_ref() {
             None => write!(f, "none"),
-            Some(map) => {
-                let figures = figures_of(map);
-                write!(f, "{figures}")
-            }
+            Some(map) => write!(f, "{}", figures_of(map)),
         }
     }
 }
@@ -91,39 +84,40 @@ impl fmt::Display for Figures {
     ghost output = { λ a. Some (figures_text a) };
 
     fn fmt<W: fmt::Write>(&self, f: &mut fmt::Formatter<W>) -> fmt::Result {
-        let width = self.width;
-        let height = self.height;
-        let stops = self.stops;
-        let tables = self.tables;
-        let segments = self.segments;
         write!(
             f,
-            "{width} x {height}, stops {stops}, closed tables {tables}, closed segments {segments}"
+            "{} x {}, stops {}, closed tables {}, closed segments {}",
+            self.width, self.height, self.stops, self.tables, self.segments
         )
     }
 }
 
-fn has_detour(finder: Finder) -> bool
-    ensures { result ≡ has_detour finder }
+#[tactic(auto, unfolding(crate::specs::Numbers::how_many_below))]
+fn closed_tables(map: &Map) -> usize
+    ensures { result ≡ how_many_below (table_closed (layout map.now)) 256 }
 {
-    match finder {
-        Finder::Bare(_) => false,
-        _ => true,
-    }
+    (0..256u16)
+        .filter(|table| map.is_table_closed(*table as u8))
+        .count()
 }
 
-fn name_of(named: Named, detour: bool) -> &'static str
-    ensures { result.now ≡ name_text named detour }
+#[tactic(auto, unfolding(crate::specs::Numbers::how_many_below))]
+fn closed_segments(map: &Map) -> usize
+    ensures { result ≡ how_many_below (segment_closed (layout map.now)) 1024 }
 {
-    match named {
-        Named::ByRows(_) => {
-            if detour {
-                "row-first with detour"
-            } else {
-                "row-first"
-            }
-        }
-        Named::ByTree(_) => { if detour { "tree with detour" } else { "tree" } }
+    (0..1024u16)
+        .filter(|segment| map.is_segment_closed(*segment))
+        .count()
+}
+
+fn name_of(plan: &Plan) -> &'static str
+    ensures { result.now ≡ name_text plan.now.named (has_detour plan.now.finder) }
+{
+    match (plan.named, plan.finder) {
+        (Named::ByRows(_), Finder::Bare(_)) => "row-first",
+        (Named::ByRows(_), _) => "row-first with detour",
+        (Named::ByTree(_), Finder::Bare(_)) => "tree",
+        (Named::ByTree(_), _) => "tree with detour",
     }
 }
 
@@ -133,33 +127,19 @@ impl fmt::Display for PlanTold<'_> {
     fn fmt<W: fmt::Write>(&self, f: &mut fmt::Formatter<W>) -> fmt::Result {
         match self.0 {
             None => write!(f, "none"),
-            Some(plan) => {
-                let name = name_of(plan.named, has_detour(plan.finder));
-                let said = said_of(plan.verdict);
-                write!(f, "{name}: {said}")
-            }
+            Some(plan) => write!(f, "{}: {}", name_of(plan), VerdictTold(plan.verdict)),
         }
     }
 }
 
-fn said_of(verdict: Option<Result<Pass, Refusal>>) -> Said
-    ensures { result ≡ said_of verdict }
-{
-    match verdict {
-        None => Said::NotChecked,
-        Some(Ok(_)) => Said::Passes,
-        Some(Err(refusal)) => Said::RefusedBy(refusal.reason.number()),
-    }
-}
-
-impl fmt::Display for Said {
-    ghost output = { λ a. Some (said_text a) };
+impl fmt::Display for VerdictTold {
+    ghost output = { λ a. Some (verdict_text a.0) };
 
     fn fmt<W: fmt::Write>(&self, f: &mut fmt::Formatter<W>) -> fmt::Result {
-        match self {
-            Said::NotChecked => write!(f, "not checked"),
-            Said::Passes => write!(f, "pass"),
-            Said::RefusedBy(number) => write!(f, "refused {number}"),
+        match self.0 {
+            None => write!(f, "not checked"),
+            Some(Ok(_)) => write!(f, "pass"),
+            Some(Err(refusal)) => write!(f, "refused {}", refusal.reason.number()),
         }
     }
 }
@@ -172,38 +152,12 @@ impl fmt::Display for FloorTold<'_> {
             None => write!(f, "none"),
             Some(floor) => {
                 let counts = floor.counts();
-                let entered = counts.entered;
-                let delivered = counts.delivered;
-                let on_floor = counts.on_floor;
                 write!(
                     f,
-                    "in {entered}, delivered {delivered}, on the floor {on_floor}"
+                    "in {}, delivered {}, on the floor {}",
+                    counts.entered, counts.delivered, counts.on_floor
                 )
             }
         }
     }
-}
-
-fn closed_tables(map: &Map) -> u16
-    ensures { result ≡ how_many_below (table_closed (layout map.now)) 256 }
-{
-    let mut closed = 0;
-    for table in 0..256u16 {
-        if map.is_table_closed(table as u8) {
-            closed += 1;
-        }
-    }
-    closed
-}
-
-fn closed_segments(map: &Map) -> u16
-    ensures { result ≡ how_many_below (segment_closed (layout map.now)) 1024 }
-{
-    let mut closed = 0;
-    for segment in 0..1024u16 {
-        if map.is_segment_closed(segment) {
-            closed += 1;
-        }
-    }
-    closed
 }

@@ -2,6 +2,7 @@ ghost use Rattle.std.specs.Prelude.{◌<◌};
 
 use engine::finder::Finder;
 use engine::session::Session;
+use engine::store::Store;
 use floor::floor::Floor;
 use map::map::Map;
 use map::side::Side;
@@ -20,7 +21,7 @@ struct Scene<'a> {
     floor: Option<&'a Floor<Finder>>,
 }
 
-/// Which of the two segments between neighbours are open.
+/// Which of the two segments between neighbours are meant.
 #[derive(Clone, Copy)]
 enum Ways {
     Both,
@@ -29,24 +30,18 @@ enum Ways {
     Neither,
 }
 
-/// On which of the two segments between neighbours a tray is.
-#[derive(Clone, Copy)]
-enum Trays {
-    OnBoth,
-    GoingOut,
-    ComingBack,
-    OnNeither,
-}
-
 const LEGEND: &str =
     "o table, S stop, X closed table, # closed stop; - | open both ways, > < ^ v open one way\n";
 
-fn ways_between(map: &Map, table: u8, side: Side) -> Ways {
+/// Which of the segments from the table to its neighbour on the side, and back, are as asked.
+fn between<F: Fn(u16) -> bool>(map: &Map, table: u8, side: Side, is_so: F) -> Ways
+    requires { F.IsAlwaysCallable is_so }
+{
     let Some(neighbour) = map.beside(table, side) else {
         return Ways::Neither;
     };
-    let out = map.is_open(side.segment_from(table));
-    let back = map.is_open(side.opposite().segment_from(neighbour));
+    let out = is_so(side.segment_from(table));
+    let back = is_so(side.opposite().segment_from(neighbour));
     match (out, back) {
         (true, true) => Ways::Both,
         (true, false) => Ways::Out,
@@ -55,34 +50,27 @@ fn ways_between(map: &Map, table: u8, side: Side) -> Ways {
     }
 }
 
-fn has_tray(scene: Scene<'_>, segment: u16) -> bool {
-    match scene.floor {
-        None => false,
-        Some(floor) => floor.look(segment).is_ok(),
+impl Scene<'_> {
+    fn has_tray(&self, segment: u16) -> bool {
+        self.floor.is_some_and(|floor| floor.look(segment).is_ok())
     }
-}
 
-fn trays_between(scene: Scene<'_>, table: u8, side: Side) -> Trays {
-    let Some(neighbour) = scene.map.beside(table, side) else {
-        return Trays::OnNeither;
-    };
-    let out = has_tray(scene, side.segment_from(table));
-    let back = has_tray(scene, side.opposite().segment_from(neighbour));
-    match (out, back) {
-        (true, true) => Trays::OnBoth,
-        (true, false) => Trays::GoingOut,
-        (false, true) => Trays::ComingBack,
-        (false, false) => Trays::OnNeither,
+    fn trays(&self, table: u8, side: Side) -> Ways {
+        between(self.map, table, side, |segment| self.has_tray(segment))
+    }
+
+    fn open_ways(&self, table: u8, side: Side) -> Ways {
+        between(self.map, table, side, |segment| self.map.is_open(segment))
     }
 }
 
 /// What is drawn between the table and its neighbour in the west.
 fn westward(scene: Scene<'_>, table: u8) -> &'static str {
-    match trays_between(scene, table, Side::West) {
-        Trays::OnBoth => "**",
-        Trays::GoingOut => "<*",
-        Trays::ComingBack => "*>",
-        Trays::OnNeither => match ways_between(scene.map, table, Side::West) {
+    match scene.trays(table, Side::West) {
+        Ways::Both => "**",
+        Ways::Out => "<*",
+        Ways::Back => "*>",
+        Ways::Neither => match scene.open_ways(table, Side::West) {
             Ways::Both => "--",
             Ways::Out => "<-",
             Ways::Back => "->",
@@ -93,9 +81,9 @@ fn westward(scene: Scene<'_>, table: u8) -> &'static str {
 
 /// What is drawn between the table and its neighbour in the south.
 fn southward(scene: Scene<'_>, table: u8) -> &'static str {
-    match trays_between(scene, table, Side::South) {
-        Trays::OnBoth | Trays::GoingOut | Trays::ComingBack => "*",
-        Trays::OnNeither => match ways_between(scene.map, table, Side::South) {
+    match scene.trays(table, Side::South) {
+        Ways::Both | Ways::Out | Ways::Back => "*",
+        Ways::Neither => match scene.open_ways(table, Side::South) {
             Ways::Both => "|",
             Ways::Out => "v",
             Ways::Back => "^",
@@ -115,9 +103,28 @@ fn cell(map: &Map, table: u8) -> &'static str {
 
 fn write_columns<W: fmt::Write>(map: &Map, f: &mut fmt::Formatter<W>) -> fmt::Result {
     f.write_str("   ")?;
+    for column in (0..16u8).filter(|column| map.has(*column)) {
+        write!(f, "{column:>3}")?;
+    }
+    f.write_str("\n")
+}
+
+/// What is drawn of each table in the row: what is before it, and its mark.
+fn write_row<'a, W: fmt::Write, F: Fn(u8) -> (&'a str, &'a str)>(
+    map: &Map,
+    row: u8,
+    drawn: F,
+    f: &mut fmt::Formatter<W>,
+) -> fmt::Result
+    requires row { row < 16 }
+    requires drawn { F.IsAlwaysCallable drawn }
+{
     for column in 0..16u8 {
-        if map.has(column) {
-            write!(f, "{column:>3}")?;
+        let table = 16 * row + column;
+        if map.has(table) {
+            let (before, mark) = drawn(table);
+            f.write_str(before)?;
+            f.write_str(mark)?;
         }
     }
     f.write_str("\n")
@@ -126,31 +133,20 @@ fn write_columns<W: fmt::Write>(map: &Map, f: &mut fmt::Formatter<W>) -> fmt::Re
 fn write_tables<W: fmt::Write>(scene: Scene<'_>, row: u8, f: &mut fmt::Formatter<W>) -> fmt::Result
     requires { row < 16 }
 {
-    write!(f, "{row:>3}  ")?;
-    for column in 0..16u8 {
-        let table = 16 * row + column;
-        if scene.map.has(table) {
-            if column > 0 {
-                f.write_str(westward(scene, table))?;
-            }
-            f.write_str(cell(scene.map, table))?;
-        }
-    }
-    f.write_str("\n")
+    write!(f, "{row:>3}")?;
+    write_row(
+        scene.map,
+        row,
+        |table| (westward(scene, table), cell(scene.map, table)),
+        f,
+    )
 }
 
 fn write_links<W: fmt::Write>(scene: Scene<'_>, row: u8, f: &mut fmt::Formatter<W>) -> fmt::Result
     requires { row < 16 }
 {
     f.write_str("   ")?;
-    for column in 0..16u8 {
-        let table = 16 * row + column;
-        if scene.map.has(table) {
-            f.write_str("  ")?;
-            f.write_str(southward(scene, table))?;
-        }
-    }
-    f.write_str("\n")
+    write_row(scene.map, row, |table| ("  ", southward(scene, table)), f)
 }
 
 /// The tray on the segment, where there is one, with the tables that it goes from and to.
@@ -160,21 +156,16 @@ fn write_tray<W: fmt::Write>(
     segment: u16,
     f: &mut fmt::Formatter<W>,
 ) -> fmt::Result {
-    let Some(head) = map.head(segment) else {
+    let (Some(head), Ok(tray)) = (map.head(segment), floor.look(segment)) else {
         return Ok(());
     };
-    match floor.look(segment) {
-        Err(_) => Ok(()),
-        Ok(tray) => {
-            let from = segment / 4;
-            let number = tray.number;
-            let destination = tray.destination;
-            write!(
-                f,
-                "tray {number} on segment {segment}, from {from} to {head}, destination {destination}\n"
-            )
-        }
-    }
+    write!(
+        f,
+        "tray {} on segment {segment}, from {} to {head}, destination {}\n",
+        tray.number,
+        segment / 4,
+        tray.destination
+    )
 }
 
 fn write_trays<W: fmt::Write>(
@@ -200,20 +191,21 @@ fn write_scene<W: fmt::Write>(scene: Scene<'_>, f: &mut fmt::Formatter<W>) -> fm
         }
     }
     f.write_str(LEGEND)?;
-    match scene.floor {
-        None => Ok(()),
-        Some(floor) => write_trays(scene.map, floor, f),
+    if let Some(floor) = scene.floor {
+        write_trays(scene.map, floor, f)?;
     }
+    Ok(())
 }
 
 impl fmt::Display for Picture<'_> {
     fn fmt<W: fmt::Write>(&self, f: &mut fmt::Formatter<W>) -> fmt::Result {
-        match self.0.store.map.as_ref() {
+        let Store { map, floor, .. } = &self.0.store;
+        match map {
             None => Ok(()),
             Some(map) => write_scene(
                 Scene {
                     map,
-                    floor: self.0.store.floor.as_ref(),
+                    floor: floor.as_ref(),
                 },
                 f,
             ),

@@ -1,8 +1,6 @@
 -- Reading digits with a cap comes to the cap of what they are worth.
-use Rattle.std.proofs.Common.{◌≡◌, ℕ, ◌+◌, ◌-◌, ◌*◌, ◌<◌, ◌≤◌, Bool, true, false, cond, List, [], ◌∷◌, length, get_or, drop, Some, None, Option, sym, refl, ap, ◌∙◌, add-one, arith, drop-cons}
-use Rattle.std.proofs.lemmas.List.{drop_all}
+use Rattle.std.proofs.Common.{◌≡◌, ℕ, ◌+◌, ◌-◌, ◌*◌, Bool, true, false, cond, List, [], ◌∷◌, length, Some, None, Option, refl, ap, ◌∙◌, arith}
 use Rattle.std.specs.Char.{is_ascii_digit}
-use Rattle.std.proofs.lemmas.Bool.{cond-true, cond-false}
 use Rattle.std.proofs.lemmas.Bool.Decides.{nat_tests}
 use Rattle.script.specs.Numbers.{read_on, number_of, at_most_over, capped}
 
@@ -27,20 +25,3 @@ cap_on n (b ∷ bs) = by_digit (is_ascii_digit b) n (b - 48) bs (cap_on (10 * n 
 pub begins : (bs : List ℕ) → (length bs ≡ 0 → ⊥) → capped_on 0 bs ≡ capped (number_of bs)
 begins [] h = elim (h refl) [ ]
 begins (b ∷ bs) h = cap_on 0 (b ∷ bs)
-
--- all : what all the digits come to
-pub goes_on : (n i v : ℕ) (bs : List ℕ) (all : Option ℕ) → i < length bs → is_ascii_digit (get_or bs i 0) ≡ true → v ≡ at_most_over (10 * n + (get_or bs i 0 - 48))
-    → capped_on n (drop i bs) ≡ all → capped_on v (drop (i + 1) bs) ≡ all
-goes_on n i v bs all lt d e h =
-    ap (λ k. capped_on k (drop (i + 1) bs)) e
-    ∙ (sym (cond-true (is_ascii_digit (get_or bs i 0)) (capped_on (at_most_over (10 * n + (get_or bs i 0 - 48))) (drop (i + 1) bs)) None d)
-    ∙ (sym (rw add-one (ap (capped_on n) (drop-cons bs i 0 lt))) ∙ h))
-
-pub breaks_off : (n i : ℕ) (bs : List ℕ) (all : Option ℕ) → i < length bs → is_ascii_digit (get_or bs i 0) ≡ false
-    → capped_on n (drop i bs) ≡ all → None ≡ all
-breaks_off n i bs all lt d h =
-    sym (cond-false (is_ascii_digit (get_or bs i 0)) (capped_on (at_most_over (10 * n + (get_or bs i 0 - 48))) (drop (i + 1) bs)) None d)
-    ∙ (sym (rw add-one (ap (capped_on n) (drop-cons bs i 0 lt))) ∙ h)
-
-pub ends : (n i : ℕ) (bs : List ℕ) (all : Option ℕ) → length bs ≤ i → capped_on n (drop i bs) ≡ all → Some n ≡ all
-ends n i bs all le h = sym (ap (capped_on n) (drop_all i bs le)) ∙ h

@@ -1,5 +1,3 @@
-mod Texts
 mod Digits
-mod Words
-mod Readings
+mod Tables
 mod Sayings

@@ -5,7 +5,8 @@ use Rattle.std.proofs.lemmas.Fmt.{decimal_by_steps, decimal_nonempty}
 use Rattle.std.proofs.lemmas.Bool.{le-leb, cond-true}
 use Rattle.std.proofs.lemmas.Bool.Decides.{nat_tests}
 use Rattle.script.specs.declared.call.Call.TheVariants.{MakeMap, ChangeMap, DrawMap, ChoosePlan, AddDetour, ChangeVias, CheckPlan, OpenFloor, UseFloor}
-use Rattle.script.specs.declared.call.Change.TheVariants.{MarkStop, UnmarkStop, CloseTable, ReopenTable, CloseSegment, ReopenSegment}
+use Rattle.script.specs.declared.call.Change.TheVariants.{MarkStop, UnmarkStop, Close, Reopen}
+use Rattle.script.specs.declared.call.Part.TheVariants.{Table, Segment}
 use Rattle.script.specs.declared.call.PlanKind.TheVariants.{RowFirst, Tree}
 use Rattle.script.specs.declared.call.ViaChange.TheVariants.{AddVia, RemoveVia}
 use Rattle.script.specs.declared.call.FloorUse.TheVariants.{EnterTray, AdvanceTray, CountLeft, LookAt, TellCounts}
@@ -59,10 +60,10 @@ pub every_call_can_be_said : EveryCallCanBeSaid
 every_call_can_be_said (MakeMap w h) r = rw (table_back w r.0, table_back h r.1)
 every_call_can_be_said (ChangeMap (MarkStop t)) r = rw (table_back t r)
 every_call_can_be_said (ChangeMap (UnmarkStop t)) r = rw (table_back t r)
-every_call_can_be_said (ChangeMap (CloseTable t)) r = rw (table_back t r)
-every_call_can_be_said (ChangeMap (ReopenTable t)) r = rw (table_back t r)
-every_call_can_be_said (ChangeMap (CloseSegment n)) r = rw (segment_back n r)
-every_call_can_be_said (ChangeMap (ReopenSegment n)) r = rw (segment_back n r)
+every_call_can_be_said (ChangeMap (Close (Table t))) r = rw (table_back t r)
+every_call_can_be_said (ChangeMap (Reopen (Table t))) r = rw (table_back t r)
+every_call_can_be_said (ChangeMap (Close (Segment n))) r = rw (segment_back n r)
+every_call_can_be_said (ChangeMap (Reopen (Segment n))) r = rw (segment_back n r)
 every_call_can_be_said DrawMap r = refl
 every_call_can_be_said (ChoosePlan RowFirst) r = refl
 every_call_can_be_said (ChoosePlan Tree) r = refl

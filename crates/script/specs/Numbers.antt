@@ -1,5 +1,6 @@
 -- The numbers of a script: decimal digits, without a sign.
 use Rattle.std.specs.Prelude.{ℕ, ◌+◌, ◌-◌, ◌*◌, cond, List, [], ◌∷◌, Some, None, Ok, Err, Option, Result, nat_le, nat_lt}
+use Rattle.std.specs.Option.{option_map}
 use Rattle.std.specs.Char.{is_ascii_digit}
 use Rattle.script.specs.declared.call.Fault.{Fault}
 use Rattle.script.specs.declared.call.Fault.TheVariants.{NoNumber, TooLarge}
@@ -19,8 +20,7 @@ abbrev pub at_most_over : ℕ → ℕ
 at_most_over n = cond (nat_lt n 65536) n 65536
 
 abbrev pub capped : Option ℕ → Option ℕ
-capped None = None
-capped (Some n) = Some (at_most_over n)
+capped o = option_map at_most_over o
 
 -- a word that is no number is one fault, and a number over the limit another
 abbrev pub up_to : ℕ → Option ℕ → Result ℕ Fault

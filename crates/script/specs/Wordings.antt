@@ -2,7 +2,8 @@
 use Rattle.std.specs.Prelude.{◌≡◌, ℕ, ◌<◌, List, [], ◌∷◌, Ok, codes, decimal}
 use Rattle.script.specs.declared.call.Call.{Call}
 use Rattle.script.specs.declared.call.Call.TheVariants.{MakeMap, ChangeMap, DrawMap, ChoosePlan, AddDetour, ChangeVias, CheckPlan, OpenFloor, UseFloor}
-use Rattle.script.specs.declared.call.Change.TheVariants.{MarkStop, UnmarkStop, CloseTable, ReopenTable, CloseSegment, ReopenSegment}
+use Rattle.script.specs.declared.call.Change.TheVariants.{MarkStop, UnmarkStop, Close, Reopen}
+use Rattle.script.specs.declared.call.Part.TheVariants.{Table, Segment}
 use Rattle.script.specs.declared.call.PlanKind.TheVariants.{RowFirst, Tree}
 use Rattle.script.specs.declared.call.ViaChange.TheVariants.{AddVia, RemoveVia}
 use Rattle.script.specs.declared.call.FloorUse.TheVariants.{EnterTray, AdvanceTray, CountLeft, LookAt, TellCounts}
@@ -12,10 +13,10 @@ abbrev pub wording : Call → List (List ℕ)
 wording (MakeMap w h) = codes "map" ∷ decimal w ∷ decimal h ∷ []
 wording (ChangeMap (MarkStop t)) = codes "stop" ∷ decimal t ∷ []
 wording (ChangeMap (UnmarkStop t)) = codes "unmark" ∷ decimal t ∷ []
-wording (ChangeMap (CloseTable t)) = codes "close" ∷ codes "table" ∷ decimal t ∷ []
-wording (ChangeMap (ReopenTable t)) = codes "reopen" ∷ codes "table" ∷ decimal t ∷ []
-wording (ChangeMap (CloseSegment n)) = codes "close" ∷ codes "segment" ∷ decimal n ∷ []
-wording (ChangeMap (ReopenSegment n)) = codes "reopen" ∷ codes "segment" ∷ decimal n ∷ []
+wording (ChangeMap (Close (Table t))) = codes "close" ∷ codes "table" ∷ decimal t ∷ []
+wording (ChangeMap (Reopen (Table t))) = codes "reopen" ∷ codes "table" ∷ decimal t ∷ []
+wording (ChangeMap (Close (Segment n))) = codes "close" ∷ codes "segment" ∷ decimal n ∷ []
+wording (ChangeMap (Reopen (Segment n))) = codes "reopen" ∷ codes "segment" ∷ decimal n ∷ []
 wording DrawMap = codes "draw" ∷ []
 wording (ChoosePlan RowFirst) = codes "plan" ∷ codes "row-first" ∷ []
 wording (ChoosePlan Tree) = codes "plan" ∷ codes "tree" ∷ []
@@ -35,10 +36,10 @@ abbrev pub InRange : Call → Type 0
 InRange (MakeMap w h) = (w < 256) × (h < 256)
 InRange (ChangeMap (MarkStop t)) = t < 256
 InRange (ChangeMap (UnmarkStop t)) = t < 256
-InRange (ChangeMap (CloseTable t)) = t < 256
-InRange (ChangeMap (ReopenTable t)) = t < 256
-InRange (ChangeMap (CloseSegment n)) = n < 65536
-InRange (ChangeMap (ReopenSegment n)) = n < 65536
+InRange (ChangeMap (Close (Table t))) = t < 256
+InRange (ChangeMap (Reopen (Table t))) = t < 256
+InRange (ChangeMap (Close (Segment n))) = n < 65536
+InRange (ChangeMap (Reopen (Segment n))) = n < 65536
 InRange DrawMap = Unit {0}
 InRange (ChoosePlan p) = Unit {0}
 InRange AddDetour = Unit {0}

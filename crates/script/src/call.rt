@@ -1,3 +1,5 @@
+use thiserror::Error;
+
 /// What a line asks for.
 #[derive(Clone, Copy, PartialEq, Eq, Debug)]
 pub enum Call {
@@ -17,10 +19,15 @@ pub enum Call {
 pub enum Change {
     MarkStop(u8),
     UnmarkStop(u8),
-    CloseTable(u8),
-    ReopenTable(u8),
-    CloseSegment(u16),
-    ReopenSegment(u16),
+    Close(Part),
+    Reopen(Part),
+}
+
+/// A part of the map, as `table 5` and `segment 21` name them.
+#[derive(Clone, Copy, PartialEq, Eq, Debug)]
+pub enum Part {
+    Table(u8),
+    Segment(u16),
 }
 
 /// The plans that can be named.
@@ -49,10 +56,14 @@ pub enum FloorUse {
 }
 
 /// Why a line is no call.
-#[derive(Clone, Copy, PartialEq, Eq, Debug)]
+#[derive(Clone, Copy, PartialEq, Eq, Debug, Error)]
 pub enum Fault {
+    #[error("no such call")]
     NoSuchCall,
+    #[error("wrong number of words")]
     WrongWords,
+    #[error("not a number")]
     NoNumber,
+    #[error("number out of range")]
     TooLarge,
 }

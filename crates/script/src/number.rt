@@ -7,6 +7,8 @@ use crate::call::Fault;
 const OVER: u32 = 65_536;
 
 /// What a word of decimal digits is worth; what is larger counts as 65,536.
+// Not `parse`, which takes a sign too. A loop: what `try_fold` gives was left unproved.
+#[tactic(auto, using(crate::proofs::Digits::begins))]
 fn value_of(word: &str) -> Option<u32>
     ensures { result ≡ capped (number_of word.now) }
 {
@@ -14,13 +16,11 @@ fn value_of(word: &str) -> Option<u32>
         return None;
     }
     let mut value: u32 = 0;
-    let digits = word.as_bytes();
-    for digit in digits {
+    for digit in word.as_bytes() {
         if !digit.is_ascii_digit() {
             return None;
         }
-        let more = 10 * value + (*digit - b'0') as u32;
-        value = if more < OVER { more } else { OVER };
+        value = (10 * value + u32::from(*digit - b'0')).min(OVER);
     }
     Some(value)
 }
@@ -29,10 +29,8 @@ fn value_of(word: &str) -> Option<u32>
 pub(crate) fn read_number(word: &str, most: u16) -> Result<u16, Fault>
     ensures is { result ≡ number_up_to most word.now }
 {
-    let Some(value) = value_of(word) else {
-        return Err(Fault::NoNumber);
-    };
-    if value > most as u32 {
+    let value = value_of(word).ok_or(Fault::NoNumber)?;
+    if value > u32::from(most) {
         return Err(Fault::TooLarge);
     }
     Ok(value as u16)

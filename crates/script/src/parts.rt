@@ -1,16 +1,8 @@
 ghost use Rattle.std.specs.Prelude.{◌≡◌};
-ghost use Rattle.script.specs.Parts.{texts, table_of, one_table, two_tables, three_tables, one_segment, part_of, plan_of, nothing};
+ghost use Rattle.script.specs.Parts.{texts, table_of, tables_of, one_segment, part_of, plan_of, nothing};
 
-use crate::call::{Fault, PlanKind};
+use crate::call::{Fault, Part, PlanKind};
 use crate::number::read_number;
-use crate::verb::Kind;
-
-/// A table or a segment, as `table 5` and `segment 21` name them.
-#[derive(Clone, Copy)]
-pub(crate) enum Part {
-    ATable(u8),
-    ASegment(u16),
-}
 
 /// A table, and likewise a width or a height.
 fn read_table(word: &str) -> Result<u8, Fault>
@@ -30,31 +22,19 @@ pub(crate) fn read_nothing(words: &[&str]) -> Result<(), Fault>
     }
 }
 
-pub(crate) fn read_one_table(words: &[&str]) -> Result<u8, Fault>
-    ensures { result ≡ one_table (texts words.now) }
+/// As many tables as are wanted, and no other word.
+#[tactic(auto, using(crate::proofs::Tables::goes_on, crate::proofs::Tables::ends))]
+pub(crate) fn read_tables<const N: usize>(words: &[&str]) -> Result<[u8; N], Fault>
+    ensures { result ≡ tables_of N (texts words.now) }
 {
-    let [table] = words else {
+    if words.len() != N {
         return Err(Fault::WrongWords);
-    };
-    read_table(table)
-}
-
-pub(crate) fn read_two_tables(words: &[&str]) -> Result<(u8, u8), Fault>
-    ensures { result ≡ two_tables (texts words.now) }
-{
-    let [first, second] = words else {
-        return Err(Fault::WrongWords);
-    };
-    Ok((read_table(first)?, read_table(second)?))
-}
-
-pub(crate) fn read_three_tables(words: &[&str]) -> Result<(u8, u8, u8), Fault>
-    ensures { result ≡ three_tables (texts words.now) }
-{
-    let [first, second, third] = words else {
-        return Err(Fault::WrongWords);
-    };
-    Ok((read_table(first)?, read_table(second)?, read_table(third)?))
+    }
+    let mut tables = [0; N];
+    for (place, word) in words.iter().enumerate() {
+        tables[place] = read_table(word)?;
+    }
+    Ok(tables)
 }
 
 pub(crate) fn read_one_segment(words: &[&str]) -> Result<u16, Fault>
@@ -72,12 +52,13 @@ pub(crate) fn read_part(words: &[&str]) -> Result<Part, Fault>
     let [first, rest @ ..] = words else {
         return Err(Fault::WrongWords);
     };
-    let Some(kind) = Kind::read(first) else {
-        return Err(Fault::NoSuchCall);
-    };
-    match kind {
-        Kind::Table => Ok(Part::ATable(read_one_table(rest)?)),
-        Kind::Segment => Ok(Part::ASegment(read_one_segment(rest)?)),
+    match *first {
+        "table" => {
+            let [table] = read_tables::<1>(rest)?;
+            Ok(Part::Table(table))
+        }
+        "segment" => Ok(Part::Segment(read_one_segment(rest)?)),
+        _ => Err(Fault::NoSuchCall),
     }
 }
 
@@ -87,9 +68,7 @@ pub(crate) fn read_plan(words: &[&str]) -> Result<PlanKind, Fault>
     let [first, rest @ ..] = words else {
         return Err(Fault::WrongWords);
     };
-    let Some(plan) = PlanKind::read(first) else {
-        return Err(Fault::NoSuchCall);
-    };
+    let plan = first.parse()?;
     read_nothing(rest)?;
     Ok(plan)
 }

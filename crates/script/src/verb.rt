@@ -1,7 +1,8 @@
 ghost use Rattle.std.specs.Prelude.{◌≡◌};
-ghost use Rattle.script.specs.Verbs.{verb_of, kind_of, plan_named};
+ghost use Rattle.script.specs.Verbs.{verb_of, plan_named};
 
-use crate::call::PlanKind;
+use crate::call::{Fault, PlanKind};
+use std::str::FromStr;
 
 /// The first word of a line.
 #[derive(Clone, Copy)]
@@ -25,60 +26,45 @@ pub(crate) enum Verb {
     Counts,
 }
 
-/// What is closed or reopened.
-#[derive(Clone, Copy)]
-pub(crate) enum Kind {
-    Table,
-    Segment,
-}
+impl FromStr for Verb {
+    type Err = Fault;
 
-impl Verb {
-    pub(crate) fn read(word: &str) -> Option<Verb>
-        ensures { result ≡ verb_of word.now }
-    {
+    ghost from_str_gives = { λ word read. read ≡ verb_of word };
+
+    fn from_str(word: &str) -> Result<Verb, Fault> {
         match word {
-            "map" => Some(Verb::Map),
-            "stop" => Some(Verb::Stop),
-            "unmark" => Some(Verb::Unmark),
-            "close" => Some(Verb::Close),
-            "reopen" => Some(Verb::Reopen),
-            "draw" => Some(Verb::Draw),
-            "plan" => Some(Verb::Plan),
-            "detour" => Some(Verb::Detour),
-            "via" => Some(Verb::Via),
-            "unvia" => Some(Verb::Unvia),
-            "check" => Some(Verb::Check),
-            "open" => Some(Verb::Open),
-            "enter" => Some(Verb::Enter),
-            "advance" => Some(Verb::Advance),
-            "left" => Some(Verb::Left),
-            "look" => Some(Verb::Look),
-            "counts" => Some(Verb::Counts),
-            _ => None,
+            "map" => Ok(Verb::Map),
+            "stop" => Ok(Verb::Stop),
+            "unmark" => Ok(Verb::Unmark),
+            "close" => Ok(Verb::Close),
+            "reopen" => Ok(Verb::Reopen),
+            "draw" => Ok(Verb::Draw),
+            "plan" => Ok(Verb::Plan),
+            "detour" => Ok(Verb::Detour),
+            "via" => Ok(Verb::Via),
+            "unvia" => Ok(Verb::Unvia),
+            "check" => Ok(Verb::Check),
+            "open" => Ok(Verb::Open),
+            "enter" => Ok(Verb::Enter),
+            "advance" => Ok(Verb::Advance),
+            "left" => Ok(Verb::Left),
+            "look" => Ok(Verb::Look),
+            "counts" => Ok(Verb::Counts),
+            _ => Err(Fault::NoSuchCall),
         }
     }
 }
 
-impl Kind {
-    pub(crate) fn read(word: &str) -> Option<Kind>
-        ensures { result ≡ kind_of word.now }
-    {
-        match word {
-            "table" => Some(Kind::Table),
-            "segment" => Some(Kind::Segment),
-            _ => None,
-        }
-    }
-}
+impl FromStr for PlanKind {
+    type Err = Fault;
 
-impl PlanKind {
-    pub(crate) fn read(word: &str) -> Option<PlanKind>
-        ensures { result ≡ plan_named word.now }
-    {
+    ghost from_str_gives = { λ word read. read ≡ plan_named word };
+
+    fn from_str(word: &str) -> Result<PlanKind, Fault> {
         match word {
-            "row-first" => Some(PlanKind::RowFirst),
-            "tree" => Some(PlanKind::Tree),
-            _ => None,
+            "row-first" => Ok(PlanKind::RowFirst),
+            "tree" => Ok(PlanKind::Tree),
+            _ => Err(Fault::NoSuchCall),
         }
     }
 }

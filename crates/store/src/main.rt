@@ -1,8 +1,7 @@
 // Asks a script's calls of the library, line by line, and ends with an account.
 #![tactic(auto)]
 
-use anyhow::anyhow;
-use engine::outcome::Outcome;
+use engine::outcome::{Failure, Outcome};
 use engine::session::Session;
 use reports::account::Account;
 use reports::picture::Picture;
@@ -11,7 +10,7 @@ use std::{env, fs, io};
 
 mod words;
 
-use words::{joined, words_of};
+use words::words_of;
 
 /// Makes the call on the line, and answers what is printed for it.
 fn told(
@@ -24,22 +23,18 @@ fn told(
     if words.is_empty() {
         return Ok(String::new(heap));
     }
-    let said = joined(heap, words.as_slice())?;
+    let said = words.join(heap, " ")?;
     match session.make(words.as_slice()) {
-        Ok(Outcome::Drawn) => {
-            let picture = Picture(session);
-            format!(in heap; "{said} -> ok\n{picture}")
-        }
+        Ok(Outcome::Drawn) => format!(in heap; "{said} -> ok\n{}", Picture(session)),
         Ok(outcome) => format!(in heap; "{said} -> {outcome}\n"),
-        Err(wrong) => format!(in heap; "line {number}: {wrong}: {said}\n"),
+        Err(Failure::Refused(refused)) => format!(in heap; "{said} -> {refused}\n"),
+        Err(Failure::Wrong(wrong)) => format!(in heap; "line {number}: {wrong}: {said}\n"),
     }
 }
 
 fn run(rt: &HostRuntime, script: &str) -> anyhow::Result<()> {
     let mut session = Session::new();
-    let mut number: u64 = 0;
-    for line in script.lines() {
-        number = number.saturating_add(1);
+    for (number, line) in (1u64..).zip(script.lines()) {
         rt.print(told(rt.alloc(), &mut session, number, line)?)?;
     }
     rt.print(Account(&session))?;
@@ -48,29 +43,25 @@ fn run(rt: &HostRuntime, script: &str) -> anyhow::Result<()> {
 
 /// The script, or a word on why it can't be read.
 fn or_tell(rt: &HostRuntime, name: &str, script: io::Result<String>) -> anyhow::Result<String> {
-    match script {
-        Ok(script) => Ok(script),
-        Err(error) => {
-            eprintln!(rt; "store: can't read {name}: {error}")?;
-            Err(anyhow!(error))
-        }
+    if let Err(error) = &script {
+        eprintln!(rt; "store: can't read {name}: {error}")?;
     }
+    Ok(script?)
 }
 
 /// Runs the script in each file that is named, or that on standard input where none is.
 fn main(rt: HostRuntime) -> anyhow::Result<()> {
-    let mut named = false;
-    for path in env::args(&rt)?.skip(1) {
-        named = true;
-        let script = or_tell(&rt, path.as_str(), fs::read_to_string(&rt, path.as_str()))?;
-        run(&rt, script.as_str())?;
-    }
-    if !named {
+    let mut paths = env::args(&rt)?.skip(1).peekable();
+    if paths.peek().is_none() {
         let script = or_tell(
             &rt,
             "standard input",
             io::read_to_string(rt.alloc(), rt.stdin()),
         )?;
+        return run(&rt, script.as_str());
+    }
+    for path in paths {
+        let script = or_tell(&rt, path.as_str(), fs::read_to_string(&rt, path.as_str()))?;
         run(&rt, script.as_str())?;
     }
     Ok(())

@@ -5,4 +5,4 @@ use Rattle.script.proofs.number.value_of.Given as goal
 
 -- what is read and what is left to read come to the number
 abbrev pub invariant-loop-digit : goal.invariant-loop-digit
-invariant-loop-digit l = (capped_on l.value (drop l.digit-index l.digits) ≡ capped (number_of l.word)) × (l.value ≤ 65536) × (l.digits ≡ l.word)
+invariant-loop-digit l = (capped_on l.value (drop l.digit-index l.digit-items) ≡ capped (number_of l.word)) × (l.value ≤ 65536) × (l.digit-items ≡ l.word)
