@@ -9,7 +9,8 @@ use trays::tray::Tray;
 use trays::trays::Trays;
 use ways::finder::WayFinder;
 
-/// The map and the way-finder that the floor was opened on, and the trays on it.
+/// The map and the way-finder that the floor was opened on, and the trays on it. A call lends one
+/// record to be changed.
 #[derive(Drop)]
 pub struct Floor<W> {
     map: Map,
@@ -71,7 +72,7 @@ impl<W: WayFinder> Floor<W> {
             .ok_or(Refusal::NumbersUsedUp)?;
         let first = self.finder.first_note(origin, destination);
         let (segment, note) = self.ask(NO_SEGMENT, origin, destination, first)?;
-        self.trays.records[segment as usize] = Some(Tray {
+        let _ = self.trays.records[segment as usize].replace(Tray {
             number: tray,
             destination,
             note,
@@ -91,7 +92,7 @@ impl<W: WayFinder> Floor<W> {
         let tray = self.trays.records[segment as usize].ok_or(Refusal::NoTray)?;
         let advances = tray.advances.saturating_add(1);
         if head == tray.destination {
-            self.trays.records[segment as usize] = None;
+            let _ = self.trays.records[segment as usize].take();
             self.trays.delivered = self.trays.delivered.saturating_add(1);
             return Ok(Moved {
                 tray: tray.number,
@@ -100,12 +101,12 @@ impl<W: WayFinder> Floor<W> {
             });
         }
         let (wanted, note) = self.ask(segment, head, tray.destination, tray.note)?;
-        self.trays.records[wanted as usize] = Some(Tray {
+        let _ = self.trays.records[wanted as usize].replace(Tray {
             note,
             advances,
             ..tray
         });
-        self.trays.records[segment as usize] = None;
+        let _ = self.trays.records[segment as usize].take();
         Ok(Moved {
             tray: tray.number,
             advances,

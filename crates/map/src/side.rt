@@ -13,6 +13,9 @@ pub enum Side {
 /// The sides by their numbers.
 pub const SIDES: [Side; 4] = [Side::North, Side::East, Side::South, Side::West];
 
+/// Stands for no segment in an answer: the product's rule, in place of an `Option`.
+pub const NO_SEGMENT: u16 = 65535;
+
 /// A number that no side has.
 #[derive(Clone, Copy, PartialEq, Eq, Debug)]
 pub struct NoSide;

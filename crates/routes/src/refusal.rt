@@ -1,8 +1,7 @@
 ghost use Rattle.std.specs.Prelude.{◌≡◌};
 ghost use Rattle.routes.specs.Refusals.{reason_number};
 
-/// Stands for no segment in a refusal.
-pub const NO_SEGMENT: u16 = 65535;
+pub use map::side::NO_SEGMENT;
 
 /// Why a step of a route is refused, with the reason's number.
 #[derive(Clone, Copy, PartialEq, Eq, Debug)]

@@ -1,8 +1,7 @@
 ghost use Rattle.std.specs.Prelude.{◌≡◌};
 ghost use Rattle.trays.specs.Refusals.{refusal_number, refusal_segments};
 
-/// Stands for no segment: an answer always names one by number.
-pub const NO_SEGMENT: u16 = 65535;
+pub use map::side::NO_SEGMENT;
 
 /// Why a call of the floor is turned down. Where two numbers follow, they are the segment held
 /// and the segment wanted.
