@@ -1,4 +1,4 @@
-ghost use Rattle.std.specs.Prelude.{◌≡◌, ◌≤◌, ◌&&◌, is_ok, IfOk, IfErr};
+ghost use Rattle.std.specs.Prelude.{◌≡◌, ◌≤◌, ◌&&◌, is_ok, is_some, IfOk, IfErr};
 ghost use Rattle.map.specs.Sizes.{fits_size};
 ghost use Rattle.map.specs.declared.refusal.Refusal.TheVariants.{BadSize};
 ghost use Rattle.map.specs.Floors.{on_floor, beside};
@@ -49,22 +49,41 @@ impl Size {
     pub(crate) fn has(self, table: u8) -> bool
         ensures { result ≡ on_floor self.width self.height table }
     {
-        table % 16 < self.width && table / 16 < self.height
+        is_on_floor(self.width, self.height, table)
     }
 
     /// The neighbour on that side, where both tables are on a floor of this size.
     pub fn beside(self, table: u8, side: Side) -> Option<u8>
         ensures { result ≡ beside self.width self.height table side }
     {
-        if !self.has(table) {
+        if !has_beside(self.width, self.height, table, side) {
             return None;
         }
-        match side {
-            Side::North if table / 16 > 0 => Some(table - 16),
-            Side::East if table % 16 + 1 < self.width => Some(table + 1),
-            Side::South if table / 16 + 1 < self.height => Some(table + 16),
-            Side::West if table % 16 > 0 => Some(table - 1),
-            _ => None,
-        }
+        Some(match side {
+            Side::North => table - 16,
+            Side::East => table + 1,
+            Side::South => table + 16,
+            Side::West => table - 1,
+        })
     }
+}
+
+/// Whether the table is on a floor of so many columns and rows, which may be any numbers.
+pub fn is_on_floor(width: u8, height: u8, table: u8) -> bool
+    ensures { result ≡ on_floor width height table }
+{
+    table % 16 < width && table / 16 < height
+}
+
+/// Whether the table and its neighbour on that side are on such a floor.
+pub fn has_beside(width: u8, height: u8, table: u8, side: Side) -> bool
+    ensures { result ≡ is_some (beside width height table side) }
+{
+    is_on_floor(width, height, table)
+        && match side {
+            Side::North => table / 16 > 0,
+            Side::East => table % 16 + 1 < width,
+            Side::South => table / 16 + 1 < height,
+            Side::West => table % 16 > 0,
+        }
 }

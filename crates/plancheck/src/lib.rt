@@ -37,6 +37,7 @@ pub fn check<W: WayFinder, R: Ranker>(map: &Map, finder: &W, ranker: &R) -> Resu
     Ok(pass)
 }
 
+// Map, way-finder and ranker come one by one, as at `check_route`.
 /// The routes from the origin, where it is a stop, to each other stop, counted onto what passed
 /// before.
 fn check_from<W: WayFinder, R: Ranker>(

@@ -6,6 +6,7 @@ ghost use Rattle.planfile.specs.Layouts.{in_body, is_there, stop_fits, head_byte
 use crate::block::{Content, Head};
 use crate::look::byte;
 use map::side::Side;
+use map::size::{has_beside, is_on_floor};
 
 /// What follows a block's first four bytes, and the head of its file. Places count from the start
 /// of the block.
@@ -15,27 +16,20 @@ pub(crate) struct Body<'a> {
     pub(crate) bytes: &'a [u8],
 }
 
-// A head is judged here for the first time, so its bytes are no `Size` of the map yet.
+// A head is judged here for the first time: its width and height may be any numbers.
 impl Head {
     fn on_floor(self, table: u8) -> bool
         ensures { result ≡ on_floor self.width self.height table }
     {
-        table % 16 < self.width && table / 16 < self.height
+        is_on_floor(self.width, self.height, table)
     }
 
     fn is_there(self, segment: u16) -> bool
         ensures { result ≡ is_there self segment }
     {
-        let Ok(table) = u8::try_from(segment / 4) else {
-            return false;
-        };
-        self.on_floor(table)
-            && match Side::of_segment(segment) {
-                Side::North => table / 16 > 0,
-                Side::East => table % 16 + 1 < self.width,
-                Side::South => table / 16 + 1 < self.height,
-                Side::West => table % 16 > 0,
-            }
+        let side = Side::of_segment(segment);
+        let table = u8::try_from(segment / 4);
+        table.is_ok_and(|table| has_beside(self.width, self.height, table, side))
     }
 
     fn entry_fits(self, stop: u8, table: u8, entry: u8) -> bool

@@ -34,6 +34,7 @@ pub fn check_route<W: WayFinder, R: Ranker>(
             number,
             held: segment_of(&held),
         };
+        // `else` and not `?`, so that the four refusals of a step read alike
         let Some((side, next)) = finder.way(table, destination, note) else {
             return Err(step.refused(Reason::NoWay, None));
         };

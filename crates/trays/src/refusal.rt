@@ -22,6 +22,7 @@ impl Refusal {
     pub fn number(self) -> u8
         ensures { result ≡ refusal_number self }
     {
+        // by a match: variants that hold segments have no number of their own
         match self {
             Refusal::NoSegment => 3,
             Refusal::NoWay(_, _) => 13,
