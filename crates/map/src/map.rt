@@ -16,11 +16,12 @@ pub mod change;
 #[derive(Clone, Copy)]
 pub struct Map {
     size: Size,
-    // Flags by number, true where closed, and not sets: the library never allocates.
+    // Flags by number, true where closed: no sets, since the library never allocates, and no array of
+    // tables, since each rule below speaks of one array of flags.
     tables: [bool; 256],
     segments: [bool; 1024],
     stops: [bool; 256],
-    // How many stops there are, so that marking one more asks no flag but its own.
+    // How many stops there are. Not counted anew: each call that marks one would go over all flags.
     count: u8,
     ghost tables_there: { (t : ℕ) → slice_index_or tables t false ≡ true → on_floor size.width size.height t ≡ true },
     ghost segments_there: { (s : ℕ) → slice_index_or segments s false ≡ true → is_some (head_of size.width size.height s) ≡ true },

@@ -79,7 +79,7 @@ fn check_pair<W: WayFinder, R: Ranker>(
     let length = check_route(map, finder, ranker, origin, destination)?;
     Ok(Pass {
         pairs: before.pairs + 1,
-        segments: before.segments + length as u32,
+        segments: before.segments + u32::from(length),
         longest: before.longest.max(length),
     })
 }

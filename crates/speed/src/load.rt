@@ -1,3 +1,5 @@
+ghost use Rattle.std.specs.Iterator.{endless};
+
 use floor::floor::Floor;
 use map::map::Map;
 use promise::open_checked;
@@ -7,9 +9,9 @@ use tree::tree::Tree;
 pub(crate) fn run_floor(store: Map) -> u64 {
     let tree = Tree::new(&store);
     let mut floor = open_checked(store, tree, &tree).floor;
-    let mut order = Order { state: 1 };
-    (0..200_000_000u32)
-        .filter_map(|_| one_call(&mut floor, order.next()))
+    Order { state: 1 }
+        .take(200_000_000)
+        .filter_map(|random| one_call(&mut floor, random))
         .take(1_000_000)
         .fold(
             0,
@@ -37,18 +39,22 @@ fn mixed(tray: u32, factor: u64, segment: u16) -> u64 {
         | 1
 }
 
-/// Numbers in a fixed pseudo-random order.
+/// Numbers in a fixed pseudo-random order, without end.
 #[derive(Clone, Copy)]
 struct Order {
     state: u64,
 }
 
-impl Order {
-    fn next(&mut self) -> u32 {
+impl Iterator for Order {
+    type Item = u32;
+
+    ghost remaining = { λ _. endless };
+
+    fn next(&mut self) -> Option<u32> {
         self.state = self
             .state
             .wrapping_mul(6364136223846793005)
             .wrapping_add(1442695040888963407);
-        (self.state >> 33) as u32
+        Some((self.state >> 33) as u32)
     }
 }

@@ -15,23 +15,21 @@ use tree::tree::Tree;
 use ways::rows::RowFirst;
 use work::{corridor_store, far_key, full_store, sum_of};
 
-/// Does the work and tells its result; where a clock is asked for, so many times, with the time of
-/// one round.
+/// Does the work and tells its result; where rounds are timed, so many times, with the time of one.
 fn report<F: Fn() -> u64>(
     rt: &HostRuntime,
-    clock: bool,
     name: &str,
-    rounds: u32,
+    timed: Option<u32>,
     work: F,
 ) -> anyhow::Result<()>
     requires { F.IsAlwaysCallable work }
 {
+    let Some(rounds) = timed else {
+        println!(rt; "{name} {}", work())?;
+        return Ok(());
+    };
     let start = Instant::now(rt)?;
     let mut result = work();
-    if !clock {
-        println!(rt; "{name} {result}")?;
-        return Ok(());
-    }
     for _ in 1..rounds {
         result = work();
     }
@@ -44,22 +42,21 @@ fn main(rt: HostRuntime) -> anyhow::Result<()> {
     let clock = env::args(&rt)?.count() > 1;
     let full = full_store().context("no store")?;
     let corridor = corridor_store().context("no store")?;
-    report(&rt, clock, "check-row-first", 100, || {
+    report(&rt, "check-row-first", clock.then_some(100), || {
         sum_of(check(&full, &RowFirst, &RowFirst))
     })?;
-    report(&rt, clock, "check-tree", 20, || {
+    report(&rt, "check-tree", clock.then_some(20), || {
         let tree = Tree::new(&full);
         sum_of(check(&full, &tree, &tree))
     })?;
     report(
         &rt,
-        clock,
         "build-tree",
-        2000,
+        clock.then_some(2000),
         || far_key(&Tree::new(&full)),
     )?;
-    report(&rt, clock, "build-tree-corridor", 2000, || {
+    report(&rt, "build-tree-corridor", clock.then_some(2000), || {
         far_key(&Tree::new(&corridor))
     })?;
-    report(&rt, clock, "floor-million", 1, || run_floor(full))
+    report(&rt, "floor-million", clock.then_some(1), || run_floor(full))
 }

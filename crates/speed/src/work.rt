@@ -29,8 +29,8 @@ pub(crate) fn far_key(tree: &Tree) -> u64 {
 /// 16 by 16 tables, every fourth a stop.
 pub(crate) fn full_store() -> Option<Map> {
     let mut map = Map::new(16, 16).ok()?;
-    for table in 0..64u8 {
-        map.mark_stop(table * 4).ok()?;
+    for table in (0..=255u8).step_by(4) {
+        map.mark_stop(table).ok()?;
     }
     Some(map)
 }
@@ -40,10 +40,10 @@ pub(crate) fn full_store() -> Option<Map> {
 pub(crate) fn corridor_store() -> Option<Map> {
     let mut map = full_store()?;
     for row in 0..8u8 {
+        // an odd row is open in the west, and any other in the east
+        let from = row % 2;
         for column in 0..15u8 {
-            let open_end = if row % 2 == 0 { 15 } else { 0 };
-            let table = 32 * row + 16 + if open_end == 0 { column + 1 } else { column };
-            map.close_table(table).ok()?;
+            map.close_table(32 * row + 16 + from + column).ok()?;
         }
     }
     Some(map)

@@ -92,6 +92,8 @@ impl Map {
         Ok(())
     }
 
+    // Tables and segments each by themselves: one call for both would need a type for the two, and as
+    // many clauses.
     fn set_table(&mut self, table: u8, closed: bool) -> Result<(), Refusal>
         ensures outcome { result ≡ told (table_change closed (layout self.old) table) }
         ensures later { layout self.new ≡ after (layout self.old) (table_change closed (layout self.old) table) }
