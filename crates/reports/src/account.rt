@@ -1,7 +1,6 @@
 ghost use Rattle.std.specs.Prelude.{◌≡◌, Some};
 ghost use Rattle.reports.specs.Accounts.{account_text, figures_of, figures_text, map_text, plan_text, verdict_text, floor_text, has_detour, name_text};
 ghost use Rattle.map.specs.Layouts.{layout, table_closed, segment_closed};
-ghost use Rattle.reports.specs.Numbers.{how_many_below};
 
 use engine::finder::{Finder, Named};
 use engine::plan::Plan;
@@ -75,8 +74,12 @@ fn figures_of(map: &Map) -> Figures
         width: map.width(),
         height: map.height(),
         stops: map.stop_count(),
-        tables: closed_tables(map),
-        segments: closed_segments(map),
+        tables: (0..256u16)
+            .filter(|table| map.is_table_closed(*table as u8))
+            .count(),
+        segments: (0..1024u16)
+            .filter(|segment| map.is_segment_closed(*segment))
+            .count(),
     }
 }
 
@@ -90,24 +93,6 @@ impl fmt::Display for Figures {
             self.width, self.height, self.stops, self.tables, self.segments
         )
     }
-}
-
-#[tactic(auto, unfolding(crate::specs::Numbers::how_many_below))]
-fn closed_tables(map: &Map) -> usize
-    ensures { result ≡ how_many_below (table_closed (layout map.now)) 256 }
-{
-    (0..256u16)
-        .filter(|table| map.is_table_closed(*table as u8))
-        .count()
-}
-
-#[tactic(auto, unfolding(crate::specs::Numbers::how_many_below))]
-fn closed_segments(map: &Map) -> usize
-    ensures { result ≡ how_many_below (segment_closed (layout map.now)) 1024 }
-{
-    (0..1024u16)
-        .filter(|segment| map.is_segment_closed(*segment))
-        .count()
 }
 
 fn name_of(plan: &Plan) -> &'static str
