@@ -18,10 +18,7 @@ fn value_of(word: &str) -> Option<u32>
     }
     let mut value: u32 = 0;
     for digit in word.as_bytes() {
-        if !digit.is_ascii_digit() {
-            return None;
-        }
-        value = (10 * value + u32::from(*digit - b'0')).min(OVER);
+        value = (10 * value + char::from(*digit).to_digit(10)?).min(OVER);
     }
     Some(value)
 }
