@@ -24,6 +24,8 @@ fn value_of(word: &str) -> Option<u32>
 }
 
 /// A table, and likewise a width or a height.
+// Not one function at any `T: TryFrom<u32>`: it could promise that trait's relation alone, which is
+// no plainer than these two equations.
 pub(crate) fn read_table(word: &str) -> Result<u8, Fault>
     ensures is { result ≡ table_of word.now }
 {

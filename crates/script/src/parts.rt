@@ -24,6 +24,7 @@ pub(crate) fn read_tables<const N: usize>(words: &[&str]) -> Result<[u8; N], Fau
         return Err(Fault::WrongWords);
     }
     let mut tables = [0; N];
+    // By place: of an array written through `iter_mut().zip(..)` a proof learns the length alone.
     for (place, word) in words.iter().enumerate() {
         tables[place] = read_table(word)?;
     }
