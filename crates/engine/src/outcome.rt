@@ -63,6 +63,8 @@ pub enum Failure {
     Wrong(Wrong),
 }
 
+// By hand: the derive's `From` has no contract, and the clauses of the calls name what `?` makes.
+
 impl From<MapRefusal> for Failure {
     ghost from_gives = { λ e f. f ≡ Failures.Refused (ByMap e) };
 

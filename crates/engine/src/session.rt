@@ -9,7 +9,6 @@ ghost use Rattle.engine.specs.Tallies.{counted};
 use crate::outcome::{Failure, Outcome};
 use crate::store::Store;
 use crate::tally::Tally;
-use script::call::Call;
 
 /// A script under way: the store as it is, and what was counted so far.
 #[derive(Drop)]
@@ -36,11 +35,7 @@ impl Session {
         ensures floor { self.new.store.floor ≡ line_floor self.old.store (call_of (texts words.now)) }
         ensures counts { self.new.tally ≡ counted self.old.tally result }
     {
-        // Not `?`, since an error is counted too.
-        let answer = match Call::read(words) {
-            Ok(call) => self.store.make(call),
-            Err(fault) => Err(fault.into()),
-        };
+        let answer = self.store.answer(words);
         self.tally.count(answer);
         answer
     }

@@ -1,8 +1,10 @@
 ghost use Rattle.std.specs.Prelude.{◌≡◌, None};
 ghost use Rattle.map.specs.Layouts.{layout};
+ghost use Rattle.script.specs.Parts.{texts};
+ghost use Rattle.script.specs.Calls.{call_of};
 ghost use Rattle.map.specs.Changes.{told as mapTold, after, new_map};
-ghost use Rattle.engine.specs.Answers.{changed, map_of, map_outcome, answer_of, change_answer, vias_answer, check_answer, open_answer, use_answer, detour_answer, plan_answer};
-ghost use Rattle.engine.specs.Laters.{instead, changed_map, later_map, PlanLater, later_floor, new_map_else, changed_plan, Chosen, detour_later, vias_later, check_later, open_later, use_later};
+ghost use Rattle.engine.specs.Answers.{changed, map_of, map_outcome, answer_of, line_answer, change_answer, vias_answer, check_answer, open_answer, use_answer, detour_answer, plan_answer};
+ghost use Rattle.engine.specs.Laters.{instead, changed_map, later_map, PlanLater, later_floor, line_map, LinePlan, line_floor, new_map_else, changed_plan, Chosen, detour_later, vias_later, check_later, open_later, use_later};
 ghost use Rattle.engine.specs.Uses.{floor_answer, floor_later};
 
 use crate::finder::{Finder, Named};
@@ -148,6 +150,16 @@ impl Store {
             plan: None,
             floor: None,
         }
+    }
+
+    /// The answer to a line: that of the call which its words ask for.
+    pub(crate) fn answer(&mut self, words: &[&str]) -> Result<Outcome, Failure>
+        ensures answer { result ≡ line_answer self.old (call_of (texts words.now)) }
+        ensures map { map_of self.new.map ≡ line_map (map_of self.old.map) (call_of (texts words.now)) }
+        ensures plan { LinePlan self.old (call_of (texts words.now)) self.new.plan }
+        ensures floor { self.new.floor ≡ line_floor self.old (call_of (texts words.now)) }
+    {
+        self.make(Call::read(words)?)
     }
 
     /// Makes the call; where something it needs is missing, nothing changes.

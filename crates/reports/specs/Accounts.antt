@@ -28,6 +28,11 @@ figures_text a =
     ++ (codes ", closed tables " ++ (decimal a.tables
     ++ (codes ", closed segments " ++ decimal a.segments)))))))
 
+-- what is said of what is there, or that there is none
+abbrev pub or_none : {A : Type 0} → (A → Option (List ℕ)) → Option A → Option (List ℕ)
+or_none told None = Some (codes "none")
+or_none told (Some a) = told a
+
 abbrev pub map_text : Option Map → List ℕ
 map_text None = codes "none"
 map_text (Some m) = figures_text (figures_of (layout m))
@@ -51,9 +56,12 @@ verdict_text None = codes "not checked"
 verdict_text (Some (Ok a)) = codes "pass"
 verdict_text (Some (Err e)) = codes "refused " ++ decimal (reason_number e.reason)
 
+abbrev pub plan_line : Plan → List ℕ
+plan_line p = name_text p.named (has_detour p.finder) ++ (codes ": " ++ verdict_text p.verdict)
+
 abbrev pub plan_text : Option Plan → List ℕ
 plan_text None = codes "none"
-plan_text (Some p) = name_text p.named (has_detour p.finder) ++ (codes ": " ++ verdict_text p.verdict)
+plan_text (Some p) = plan_line p
 
 abbrev pub counts_text : ℕ × ℕ × ℕ → List ℕ
 counts_text p =

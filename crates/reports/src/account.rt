@@ -1,12 +1,12 @@
 ghost use Rattle.std.specs.Prelude.{◌≡◌, Some};
-ghost use Rattle.reports.specs.Accounts.{account_text, figures_of, figures_text, map_text, plan_text, verdict_text, floor_text, has_detour, name_text};
-ghost use Rattle.map.specs.Layouts.{layout, table_closed, segment_closed};
-ghost use Rattle.reports.specs.Numbers.{how_many_below};
+ghost use Rattle.reports.specs.Accounts.{account_text, figures_of, figures_text, map_text, or_none, plan_line, plan_text, counts_text, floor_text, verdict_text, has_detour, name_text};
+ghost use Rattle.floor.specs.Floors.{counts_fields};
+ghost use Rattle.map.specs.Layouts.{layout};
 
 use engine::finder::{Finder, Named};
 use engine::plan::Plan;
 use engine::session::Session;
-use floor::floor::Floor;
+use floor::floor::{Counts, Floor};
 use map::map::Map;
 use plancheck::pass::Pass;
 use routes::refusal::Refusal;
@@ -16,9 +16,9 @@ use std::fmt;
 #[derive(Clone, Copy)]
 pub struct Account<'a>(pub &'a Session);
 
-/// The store's map, told in a line.
+/// A part of the store, told in a line: what is there, or that there is none.
 #[derive(Clone, Copy)]
-struct MapTold<'a>(&'a Option<Map>);
+struct OrNone<T>(Option<T>);
 
 /// What is told of a map.
 #[derive(Clone, Copy)]
@@ -30,17 +30,17 @@ struct Figures {
     segments: usize,
 }
 
-/// The store's plan, told in a line.
+/// A plan, told in a line.
 #[derive(Clone, Copy)]
-struct PlanTold<'a>(&'a Option<Plan>);
+struct PlanTold<'a>(&'a Plan);
 
 /// What the check said of the map and the plan as they are now.
 #[derive(Clone, Copy)]
 struct VerdictTold(Option<Result<Pass, Refusal>>);
 
-/// The trays of the store's floor, told in a line.
+/// How many trays a floor had, delivered and has.
 #[derive(Clone, Copy)]
-struct FloorTold<'a>(&'a Option<Floor<Finder>>);
+struct FloorTold(Counts);
 
 impl fmt::Display for Account<'_> {
     ghost output = { λ a. Some (account_text a.0.now) };
@@ -50,22 +50,28 @@ impl fmt::Display for Account<'_> {
         write!(
             f,
             "\naccount\n{tally}\nmap {}\nplan {}\nfloor: {}\n",
-            MapTold(&store.map),
-            PlanTold(&store.plan),
-            FloorTold(&store.floor)
+            map_told(&store.map),
+            plan_told(&store.plan),
+            floor_told(&store.floor)
         )
     }
 }
 
-impl fmt::Display for MapTold<'_> {
-    ghost output = { λ a. Some (map_text a.0.now) };
+impl<T: fmt::Display> fmt::Display for OrNone<T> {
+    ghost output = { λ o. or_none T.output o.0 };
 
     fn fmt<W: fmt::Write>(&self, f: &mut fmt::Formatter<W>) -> fmt::Result {
-        match self.0.as_ref() {
+        match &self.0 {
             None => write!(f, "none"),
-            Some(map) => write!(f, "{}", figures_of(map)),
+            Some(part) => write!(f, "{part}"),
         }
     }
+}
+
+fn map_told(map: &Option<Map>) -> OrNone<Figures>
+    ensures { or_none (λ a. Some (figures_text a)) result.0 ≡ Some (map_text map.now) }
+{
+    OrNone(map.as_ref().map(figures_of))
 }
 
 fn figures_of(map: &Map) -> Figures
@@ -75,8 +81,12 @@ fn figures_of(map: &Map) -> Figures
         width: map.width(),
         height: map.height(),
         stops: map.stop_count(),
-        tables: closed_tables(map),
-        segments: closed_segments(map),
+        tables: (0..256u16)
+            .filter(|table| map.is_table_closed(*table as u8))
+            .count(),
+        segments: (0..1024u16)
+            .filter(|segment| map.is_segment_closed(*segment))
+            .count(),
     }
 }
 
@@ -92,22 +102,10 @@ impl fmt::Display for Figures {
     }
 }
 
-#[tactic(auto, unfolding(crate::specs::Numbers::how_many_below))]
-fn closed_tables(map: &Map) -> usize
-    ensures { result ≡ how_many_below (table_closed (layout map.now)) 256 }
+fn plan_told(plan: &Option<Plan>) -> OrNone<PlanTold<'_>>
+    ensures { or_none (λ a. Some (plan_line a.0.now)) result.0 ≡ Some (plan_text plan.now) }
 {
-    (0..256u16)
-        .filter(|table| map.is_table_closed(*table as u8))
-        .count()
-}
-
-#[tactic(auto, unfolding(crate::specs::Numbers::how_many_below))]
-fn closed_segments(map: &Map) -> usize
-    ensures { result ≡ how_many_below (segment_closed (layout map.now)) 1024 }
-{
-    (0..1024u16)
-        .filter(|segment| map.is_segment_closed(*segment))
-        .count()
+    OrNone(plan.as_ref().map(|plan| PlanTold(plan)))
 }
 
 fn name_of(plan: &Plan) -> &'static str
@@ -122,13 +120,10 @@ fn name_of(plan: &Plan) -> &'static str
 }
 
 impl fmt::Display for PlanTold<'_> {
-    ghost output = { λ a. Some (plan_text a.0.now) };
+    ghost output = { λ a. Some (plan_line a.0.now) };
 
     fn fmt<W: fmt::Write>(&self, f: &mut fmt::Formatter<W>) -> fmt::Result {
-        match self.0 {
-            None => write!(f, "none"),
-            Some(plan) => write!(f, "{}: {}", name_of(plan), VerdictTold(plan.verdict)),
-        }
+        write!(f, "{}: {}", name_of(self.0), VerdictTold(self.0.verdict))
     }
 }
 
@@ -144,20 +139,21 @@ impl fmt::Display for VerdictTold {
     }
 }
 
-impl fmt::Display for FloorTold<'_> {
-    ghost output = { λ a. Some (floor_text a.0.now) };
+fn floor_told(floor: &Option<Floor<Finder>>) -> OrNone<FloorTold>
+    ensures { or_none (λ a. Some (counts_text (counts_fields a.0))) result.0 ≡ Some (floor_text floor.now) }
+{
+    OrNone(floor.as_ref().map(|floor| FloorTold(floor.counts())))
+}
+
+impl fmt::Display for FloorTold {
+    ghost output = { λ a. Some (counts_text (counts_fields a.0)) };
 
     fn fmt<W: fmt::Write>(&self, f: &mut fmt::Formatter<W>) -> fmt::Result {
-        match self.0.as_ref() {
-            None => write!(f, "none"),
-            Some(floor) => {
-                let counts = floor.counts();
-                write!(
-                    f,
-                    "in {}, delivered {}, on the floor {}",
-                    counts.entered, counts.delivered, counts.on_floor
-                )
-            }
-        }
+        let counts = self.0;
+        write!(
+            f,
+            "in {}, delivered {}, on the floor {}",
+            counts.entered, counts.delivered, counts.on_floor
+        )
     }
 }

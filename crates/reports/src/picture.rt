@@ -21,6 +21,14 @@ struct Scene<'a> {
     floor: Option<&'a Floor<Finder>>,
 }
 
+/// A row of the tables that the scene shows.
+#[derive(Clone, Copy)]
+struct Row<'a> {
+    scene: Scene<'a>,
+    number: u8,
+    ghost within: { number < 16 },
+}
+
 /// Which of the two segments between neighbours are meant.
 #[derive(Clone, Copy)]
 enum Ways {
@@ -62,139 +70,143 @@ impl Scene<'_> {
     fn open_ways(&self, table: u8, side: Side) -> Ways {
         between(self.map, table, side, |segment| self.map.is_open(segment))
     }
-}
 
-/// What is drawn between the table and its neighbour in the west.
-fn westward(scene: Scene<'_>, table: u8) -> &'static str {
-    match scene.trays(table, Side::West) {
-        Ways::Both => "**",
-        Ways::Out => "<*",
-        Ways::Back => "*>",
-        Ways::Neither => match scene.open_ways(table, Side::West) {
-            Ways::Both => "--",
-            Ways::Out => "<-",
-            Ways::Back => "->",
-            Ways::Neither => "  ",
-        },
-    }
-}
-
-/// What is drawn between the table and its neighbour in the south.
-fn southward(scene: Scene<'_>, table: u8) -> &'static str {
-    match scene.trays(table, Side::South) {
-        Ways::Both | Ways::Out | Ways::Back => "*",
-        Ways::Neither => match scene.open_ways(table, Side::South) {
-            Ways::Both => "|",
-            Ways::Out => "v",
-            Ways::Back => "^",
-            Ways::Neither => " ",
-        },
-    }
-}
-
-fn cell(map: &Map, table: u8) -> &'static str {
-    match (map.is_stop(table), map.is_table_closed(table)) {
-        (false, false) => "o",
-        (true, false) => "S",
-        (false, true) => "X",
-        (true, true) => "#",
-    }
-}
-
-fn write_columns<W: fmt::Write>(map: &Map, f: &mut fmt::Formatter<W>) -> fmt::Result {
-    f.write_str("   ")?;
-    for column in (0..16u8).filter(|column| map.has(*column)) {
-        write!(f, "{column:>3}")?;
-    }
-    f.write_str("\n")
-}
-
-/// What is drawn of each table in the row: what is before it, and its mark.
-fn write_row<'a, W: fmt::Write, F: Fn(u8) -> (&'a str, &'a str)>(
-    map: &Map,
-    row: u8,
-    drawn: F,
-    f: &mut fmt::Formatter<W>,
-) -> fmt::Result
-    requires row { row < 16 }
-    requires drawn { F.IsAlwaysCallable drawn }
-{
-    for column in 0..16u8 {
-        let table = 16 * row + column;
-        if map.has(table) {
-            let (before, mark) = drawn(table);
-            f.write_str(before)?;
-            f.write_str(mark)?;
+    /// What is drawn between the table and its neighbour in the west.
+    fn westward(&self, table: u8) -> &'static str {
+        match self.trays(table, Side::West) {
+            Ways::Both => "**",
+            Ways::Out => "<*",
+            Ways::Back => "*>",
+            Ways::Neither => match self.open_ways(table, Side::West) {
+                Ways::Both => "--",
+                Ways::Out => "<-",
+                Ways::Back => "->",
+                Ways::Neither => "  ",
+            },
         }
     }
-    f.write_str("\n")
-}
 
-fn write_tables<W: fmt::Write>(scene: Scene<'_>, row: u8, f: &mut fmt::Formatter<W>) -> fmt::Result
-    requires { row < 16 }
-{
-    write!(f, "{row:>3}")?;
-    write_row(
-        scene.map,
-        row,
-        |table| (westward(scene, table), cell(scene.map, table)),
-        f,
-    )
-}
-
-fn write_links<W: fmt::Write>(scene: Scene<'_>, row: u8, f: &mut fmt::Formatter<W>) -> fmt::Result
-    requires { row < 16 }
-{
-    f.write_str("   ")?;
-    write_row(scene.map, row, |table| ("  ", southward(scene, table)), f)
-}
-
-/// The tray on the segment, where there is one, with the tables that it goes from and to.
-fn write_tray<W: fmt::Write>(
-    map: &Map,
-    floor: &Floor<Finder>,
-    segment: u16,
-    f: &mut fmt::Formatter<W>,
-) -> fmt::Result {
-    let (Some(head), Ok(tray)) = (map.head(segment), floor.look(segment)) else {
-        return Ok(());
-    };
-    write!(
-        f,
-        "tray {} on segment {segment}, from {} to {head}, destination {}\n",
-        tray.number,
-        segment / 4,
-        tray.destination
-    )
-}
-
-fn write_trays<W: fmt::Write>(
-    map: &Map,
-    floor: &Floor<Finder>,
-    f: &mut fmt::Formatter<W>,
-) -> fmt::Result {
-    f.write_str("* tray: *> eastward, <* westward\n")?;
-    for segment in 0..1024u16 {
-        write_tray(map, floor, segment, f)?;
-    }
-    Ok(())
-}
-
-fn write_scene<W: fmt::Write>(scene: Scene<'_>, f: &mut fmt::Formatter<W>) -> fmt::Result {
-    write_columns(scene.map, f)?;
-    for row in 0..16u8 {
-        if scene.map.has(16 * row) {
-            write_tables(scene, row, f)?;
-        }
-        if scene.map.beside(16 * row, Side::South).is_some() {
-            write_links(scene, row, f)?;
+    /// What is drawn between the table and its neighbour in the south.
+    fn southward(&self, table: u8) -> &'static str {
+        match self.trays(table, Side::South) {
+            Ways::Both | Ways::Out | Ways::Back => "*",
+            Ways::Neither => match self.open_ways(table, Side::South) {
+                Ways::Both => "|",
+                Ways::Out => "v",
+                Ways::Back => "^",
+                Ways::Neither => " ",
+            },
         }
     }
-    f.write_str(LEGEND)?;
-    if let Some(floor) = scene.floor {
-        write_trays(scene.map, floor, f)?;
+
+    fn cell(&self, table: u8) -> &'static str {
+        match (self.map.is_stop(table), self.map.is_table_closed(table)) {
+            (false, false) => "o",
+            (true, false) => "S",
+            (false, true) => "X",
+            (true, true) => "#",
+        }
     }
-    Ok(())
+
+    fn write_columns<W: fmt::Write>(&self, f: &mut fmt::Formatter<W>) -> fmt::Result {
+        f.write_str("   ")?;
+        for column in (0..16u8).filter(|column| self.map.has(*column)) {
+            write!(f, "{column:>3}")?;
+        }
+        f.write_str("\n")
+    }
+
+    /// The tray on the segment, where there is one, with the tables that it goes from and to.
+    fn write_tray<W: fmt::Write>(
+        &self,
+        floor: &Floor<Finder>,
+        segment: u16,
+        f: &mut fmt::Formatter<W>,
+    ) -> fmt::Result {
+        let (Some(head), Ok(tray)) = (self.map.head(segment), floor.look(segment)) else {
+            return Ok(());
+        };
+        write!(
+            f,
+            "tray {} on segment {segment}, from {} to {head}, destination {}\n",
+            tray.number,
+            segment / 4,
+            tray.destination
+        )
+    }
+
+    fn write_trays<W: fmt::Write>(&self, f: &mut fmt::Formatter<W>) -> fmt::Result {
+        let Some(floor) = self.floor else {
+            return Ok(());
+        };
+        f.write_str("* tray: *> eastward, <* westward\n")?;
+        for segment in 0..1024u16 {
+            self.write_tray(floor, segment, f)?;
+        }
+        Ok(())
+    }
+}
+
+impl fmt::Display for Scene<'_> {
+    fn fmt<W: fmt::Write>(&self, f: &mut fmt::Formatter<W>) -> fmt::Result {
+        self.write_columns(f)?;
+        for number in 0..16u8 {
+            let row = Row {
+                scene: *self,
+                number,
+            };
+            write!(f, "{row}")?;
+        }
+        f.write_str(LEGEND)?;
+        self.write_trays(f)
+    }
+}
+
+impl Row<'_> {
+    /// What is drawn of each table in the row: what is before it, and its mark.
+    fn write<'a, W: fmt::Write, F: Fn(u8) -> (&'a str, &'a str)>(
+        &self,
+        drawn: F,
+        f: &mut fmt::Formatter<W>,
+    ) -> fmt::Result
+        requires { F.IsAlwaysCallable drawn }
+    {
+        for column in 0..16u8 {
+            let table = 16 * self.number + column;
+            if self.scene.map.has(table) {
+                let (before, mark) = drawn(table);
+                f.write_str(before)?;
+                f.write_str(mark)?;
+            }
+        }
+        f.write_str("\n")
+    }
+
+    fn write_tables<W: fmt::Write>(&self, f: &mut fmt::Formatter<W>) -> fmt::Result {
+        write!(f, "{:>3}", self.number)?;
+        self.write(
+            |table| (self.scene.westward(table), self.scene.cell(table)),
+            f,
+        )
+    }
+
+    fn write_links<W: fmt::Write>(&self, f: &mut fmt::Formatter<W>) -> fmt::Result {
+        f.write_str("   ")?;
+        self.write(|table| ("  ", self.scene.southward(table)), f)
+    }
+}
+
+impl fmt::Display for Row<'_> {
+    fn fmt<W: fmt::Write>(&self, f: &mut fmt::Formatter<W>) -> fmt::Result {
+        let first = 16 * self.number;
+        if self.scene.map.has(first) {
+            self.write_tables(f)?;
+        }
+        if self.scene.map.beside(first, Side::South).is_some() {
+            self.write_links(f)?;
+        }
+        Ok(())
+    }
 }
 
 impl fmt::Display for Picture<'_> {
@@ -202,13 +214,10 @@ impl fmt::Display for Picture<'_> {
         let Store { map, floor, .. } = &self.0.store;
         match map {
             None => Ok(()),
-            Some(map) => write_scene(
-                Scene {
-                    map,
-                    floor: floor.as_ref(),
-                },
-                f,
-            ),
+            Some(map) => {
+                let floor = floor.as_ref();
+                write!(f, "{}", Scene { map, floor })
+            }
         }
     }
 }

@@ -1,5 +1,6 @@
 ghost use Rattle.std.specs.Prelude.{◌≡◌, ◌≤◌};
-ghost use Rattle.script.specs.Numbers.{number_up_to, capped, number_of};
+ghost use Rattle.script.specs.Numbers.{capped, number_of};
+ghost use Rattle.script.specs.Parts.{table_of, segment_of};
 
 use crate::call::Fault;
 
@@ -17,21 +18,24 @@ fn value_of(word: &str) -> Option<u32>
     }
     let mut value: u32 = 0;
     for digit in word.as_bytes() {
-        if !digit.is_ascii_digit() {
-            return None;
-        }
-        value = (10 * value + u32::from(*digit - b'0')).min(OVER);
+        value = (10 * value + char::from(*digit).to_digit(10)?).min(OVER);
     }
     Some(value)
 }
 
-/// The number that a word writes, where it is not over the limit.
-pub(crate) fn read_number(word: &str, most: u16) -> Result<u16, Fault>
-    ensures is { result ≡ number_up_to most word.now }
+/// A table, and likewise a width or a height.
+// Not one function at any `T: TryFrom<u32>`: it could promise that trait's relation alone, which is
+// no plainer than these two equations.
+pub(crate) fn read_table(word: &str) -> Result<u8, Fault>
+    ensures is { result ≡ table_of word.now }
 {
     let value = value_of(word).ok_or(Fault::NoNumber)?;
-    if value > u32::from(most) {
-        return Err(Fault::TooLarge);
-    }
-    Ok(value as u16)
+    u8::try_from(value).map_err(|_| Fault::TooLarge)
+}
+
+pub(crate) fn read_segment(word: &str) -> Result<u16, Fault>
+    ensures is { result ≡ segment_of word.now }
+{
+    let value = value_of(word).ok_or(Fault::NoNumber)?;
+    u16::try_from(value).map_err(|_| Fault::TooLarge)
 }

@@ -1,15 +1,8 @@
 ghost use Rattle.std.specs.Prelude.{◌≡◌};
-ghost use Rattle.script.specs.Parts.{texts, table_of, tables_of, one_segment, part_of, plan_of, nothing};
+ghost use Rattle.script.specs.Parts.{texts, tables_of, one_segment, part_of, plan_of, nothing};
 
 use crate::call::{Fault, Part, PlanKind};
-use crate::number::read_number;
-
-/// A table, and likewise a width or a height.
-fn read_table(word: &str) -> Result<u8, Fault>
-    ensures { result ≡ table_of word.now }
-{
-    Ok(read_number(word, 255)? as u8)
-}
+use crate::number::{read_segment, read_table};
 
 /// No word is left over.
 pub(crate) fn read_nothing(words: &[&str]) -> Result<(), Fault>
@@ -31,6 +24,7 @@ pub(crate) fn read_tables<const N: usize>(words: &[&str]) -> Result<[u8; N], Fau
         return Err(Fault::WrongWords);
     }
     let mut tables = [0; N];
+    // By place: of an array written through `iter_mut().zip(..)` a proof learns the length alone.
     for (place, word) in words.iter().enumerate() {
         tables[place] = read_table(word)?;
     }
@@ -43,7 +37,7 @@ pub(crate) fn read_one_segment(words: &[&str]) -> Result<u16, Fault>
     let [segment] = words else {
         return Err(Fault::WrongWords);
     };
-    read_number(segment, 65_535)
+    read_segment(segment)
 }
 
 pub(crate) fn read_part(words: &[&str]) -> Result<Part, Fault>
