@@ -10,7 +10,7 @@ use ways::finder::WayFinder;
 
 /// What is written: a floor with its stops in rising order, a way-finder and keys.
 #[derive(Drop)]
-pub(crate) struct Source<'a, W: WayFinder> {
+pub(crate) struct Source<'a, W> {
     pub(crate) map: &'a Map,
     pub(crate) finder: &'a W,
     pub(crate) keys: &'a [u16; 1024],
