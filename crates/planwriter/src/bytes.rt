@@ -1,18 +1,20 @@
-// The bytes of a block, each by its place in the block.
+// The bytes of a block, each by its place in the block. The ranges of places stand again where a
+// plan is read: here they make each byte, there they judge any. A shared enum of spots would only
+// stand between each range and what it means.
 ghost use Rattle.std.specs.Prelude.{◌≡◌, ◌+◌, ◌<◌, ◌≤◌, length};
 ghost use Rattle.planwriter.specs.Files.{entry_number, head_byte, way_byte, key_half, key_byte, content_byte, content_of, block_byte};
 ghost use Rattle.planwriter.specs.Written.{source_in};
 
 use crate::source::Source;
 use map::side::Side;
-use planfile::block::Content;
+use planfile::block::{Content, NO_WAY};
 use ways::finder::WayFinder;
 
 fn entry_number(way: Option<(Side, u32)>) -> u8
     ensures is { result ≡ entry_number way }
     ensures small { result < 16 }
 {
-    way.map_or(15, |(side, _)| side.number())
+    way.map_or(NO_WAY, |(side, _)| side.number())
 }
 
 fn key_half(place: usize, key: u16) -> u8
@@ -31,7 +33,7 @@ impl<W: WayFinder> Source<'_, W> {
             let note = self.finder.first_note(table, stop);
             entry_number(self.finder.way(table, stop, note))
         } else {
-            15
+            NO_WAY
         }
     }
 
