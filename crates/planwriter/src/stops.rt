@@ -10,6 +10,7 @@ pub(crate) fn stops_of(map: &Map) -> ArrayVec<u8, 64>
     ensures { result.items ≡ stops_of (layout map.now) }
 {
     let mut stops = ArrayVec::new();
+    // by `push`, which asks for room: `extend` with a chain answers a result that can't fail here
     for table in 0..=255 {
         if map.is_stop(table) {
             stops.push(table);
