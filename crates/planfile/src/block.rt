@@ -13,6 +13,9 @@ pub struct Head {
     pub count: u8,
 }
 
+/// The half byte of an entry that is no way: a way is a side's number, which is below 4.
+pub const NO_WAY: u8 = 15;
+
 /// What a block is to hold: the head with the stops, the ways to a stop, or an eighth of the keys.
 #[derive(Clone, Copy)]
 pub enum Content {

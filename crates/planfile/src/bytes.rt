@@ -1,9 +1,11 @@
-// The tests of a block's bytes, each by its place in the block.
+// The tests of a block's bytes, each by its place in the block. The ranges of places stand again
+// where a plan is written: here they judge any byte, there they make one. A shared enum of spots
+// would only stand between each range and what it means.
 ghost use Rattle.std.specs.Prelude.{◌≡◌, ◌≤◌};
 ghost use Rattle.map.specs.Floors.{on_floor};
 ghost use Rattle.planfile.specs.Layouts.{in_body, is_there, stop_fits, head_byte_fits, entry_fits, way_byte_fits, key_byte_fits, byte_fits, body_fits};
 
-use crate::block::{Content, Head};
+use crate::block::{Content, Head, NO_WAY};
 use crate::look::byte;
 use map::side::Side;
 use map::size::{has_beside, is_on_floor};
@@ -35,7 +37,7 @@ impl Head {
     fn entry_fits(self, stop: u8, table: u8, entry: u8) -> bool
         ensures { result ≡ entry_fits self stop table entry }
     {
-        entry == 15 || (entry < 4 && self.on_floor(table) && table != stop)
+        entry == NO_WAY || (entry < 4 && self.on_floor(table) && table != stop)
     }
 
     fn way_byte_fits(self, stop: u8, place: usize, byte: u8) -> bool

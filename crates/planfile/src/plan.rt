@@ -1,10 +1,10 @@
 ghost use Rattle.std.specs.Prelude.{◌≡◌, Some, None, MatchResult, OnOk, slice_index};
 ghost use Rattle.planfile.specs.Outcomes.{read_outcome};
 ghost use Rattle.planfile.specs.Promises.{FirstFault, OneByteNamed, OneByteRefused, PlanFile, PlanHolds};
-ghost use Rattle.planfile.specs.Plans.{key_in, stop_in, way_in};
+ghost use Rattle.planfile.specs.Plans.{entry_at, key_in, place_of, stop_in, way_in};
 
 use crate::judge::judge;
-use crate::look::{byte, entry_at, entry_way, place_of};
+use crate::look::{byte, entry_way};
 use crate::refusal::Refusal;
 use map::side::Side;
 use orders::ranker::Ranker;
@@ -54,6 +54,22 @@ impl<'a> WrittenPlan<'a> {
     {
         (i < byte(self.file, 6)).then(|| byte(self.file, 8 + usize::from(i)))
     }
+
+    /// The place of the table among the stops.
+    fn place_of(&self, table: u8) -> Option<u8>
+        ensures { result ≡ place_of self.now.file.now table }
+    {
+        (0..self.stop_count()).find(|&i| byte(self.file, 8 + usize::from(i)) == table)
+    }
+
+    /// The entry for a table, in the block of the ways to the stop at a place.
+    fn entry_at(&self, i: u8, table: u8) -> u8
+        ensures { result ≡ entry_at self.now.file.now i table }
+    {
+        let block = usize::from(i) + 1;
+        let both = byte(self.file, 512 * block + 8 + usize::from(table / 2));
+        if table % 2 == 0 { both / 16 } else { both % 16 }
+    }
 }
 
 /// Each way is the file's entry, and notes are 0.
@@ -67,8 +83,8 @@ impl<'a> WayFinder for WrittenPlan<'a> {
     }
 
     fn way(&self, table: u8, destination: u8, note: u32) -> Option<(Side, u32)> {
-        let i = place_of(self.file, destination)?;
-        entry_way(entry_at(self.file, i, table))
+        let i = self.place_of(destination)?;
+        entry_way(self.entry_at(i, table))
     }
 }
 

@@ -1,3 +1,4 @@
 pub mod Stops
 pub mod Files
+pub mod Written
 pub mod Promises

@@ -1,19 +1,20 @@
-// The bytes of a block, each by its place in the block.
+// The bytes of a block, each by its place in the block. The ranges of places stand again where a
+// plan is read: here they make each byte, there they judge any. A shared enum of spots would only
+// stand between each range and what it means.
 ghost use Rattle.std.specs.Prelude.{◌≡◌, ◌+◌, ◌<◌, ◌≤◌, length};
-ghost use Rattle.map.specs.Layouts.{layout};
-ghost use Rattle.planwriter.specs.Stops.{stops_of};
-ghost use Rattle.planwriter.specs.Files.{entry_number, entry_for, key_for, head_for, source_of, head_byte, way_byte, key_half, key_byte, content_byte, content_of, block_byte};
+ghost use Rattle.planwriter.specs.Files.{entry_number, head_byte, way_byte, key_half, key_byte, content_byte, content_of, block_byte};
+ghost use Rattle.planwriter.specs.Written.{source_in};
 
 use crate::source::Source;
 use map::side::Side;
-use planfile::block::Content;
+use planfile::block::{Content, NO_WAY};
 use ways::finder::WayFinder;
 
 fn entry_number(way: Option<(Side, u32)>) -> u8
     ensures is { result ≡ entry_number way }
     ensures small { result < 16 }
 {
-    way.map_or(15, |(side, _)| side.number())
+    way.map_or(NO_WAY, |(side, _)| side.number())
 }
 
 fn key_half(place: usize, key: u16) -> u8
@@ -25,19 +26,19 @@ fn key_half(place: usize, key: u16) -> u8
 impl<W: WayFinder> Source<'_, W> {
     /// The entry of a table for a stop.
     fn entry(&self, stop: u8, table: u8) -> u8
-        ensures is { result ≡ entry_for (head_for (layout self.now.map.now)) (W.WayFinder.first self.now.finder.now) (W.WayFinder.way self.now.finder.now) stop table }
+        ensures is { result ≡ (source_in W.WayFinder self.now).entry stop table }
         ensures small { result < 16 }
     {
         if self.map.has(table) && table != stop {
             let note = self.finder.first_note(table, stop);
             entry_number(self.finder.way(table, stop, note))
         } else {
-            15
+            NO_WAY
         }
     }
 
     fn key(&self, segment: u16) -> u16
-        ensures { result ≡ key_for (head_for (layout self.now.map.now)) self.now.keys.now segment }
+        ensures { result ≡ (source_in W.WayFinder self.now).key segment }
     {
         if segment < 1024 && self.map.head(segment).is_some() {
             self.keys[segment as usize]
@@ -47,7 +48,7 @@ impl<W: WayFinder> Source<'_, W> {
     }
 
     fn head_byte(&self, place: usize) -> u8
-        ensures { result ≡ head_byte (head_for (layout self.now.map.now)) (stops_of (layout self.now.map.now)) place }
+        ensures { result ≡ head_byte (source_in W.WayFinder self.now).head (source_in W.WayFinder self.now).stops place }
     {
         let stops = self.stops.as_slice();
         match place {
@@ -60,7 +61,7 @@ impl<W: WayFinder> Source<'_, W> {
     }
 
     fn way_byte(&self, stop: u8, place: usize) -> u8
-        ensures { result ≡ way_byte (entry_for (head_for (layout self.now.map.now)) (W.WayFinder.first self.now.finder.now) (W.WayFinder.way self.now.finder.now)) stop place }
+        ensures { result ≡ way_byte (source_in W.WayFinder self.now).entry stop place }
     {
         match place {
             0..=4 => stop,
@@ -73,7 +74,7 @@ impl<W: WayFinder> Source<'_, W> {
     }
 
     fn key_byte(&self, part: u8, place: usize) -> u8
-        ensures { result ≡ key_byte (key_for (head_for (layout self.now.map.now)) self.now.keys.now) part place }
+        ensures { result ≡ key_byte (source_in W.WayFinder self.now).key part place }
     {
         match place {
             0..=4 => part,
@@ -87,7 +88,7 @@ impl<W: WayFinder> Source<'_, W> {
 
     /// How many blocks the file has.
     pub(crate) fn block_count(&self) -> usize
-        ensures is { result ≡ length (stops_of (layout self.now.map.now)) + 9 }
+        ensures is { result ≡ length (source_in W.WayFinder self.now).stops + 9 }
         ensures few { result ≤ 73 }
     {
         self.stops.len() + 9
@@ -95,7 +96,7 @@ impl<W: WayFinder> Source<'_, W> {
 
     /// What a block is to hold, by its number.
     pub(crate) fn content_of(&self, number: u8) -> Content
-        ensures { result ≡ content_of (stops_of (layout self.now.map.now)) number }
+        ensures { result ≡ content_of (source_in W.WayFinder self.now).stops number }
     {
         let stops = self.stops.as_slice();
         if number == 0 {
@@ -111,7 +112,7 @@ impl<W: WayFinder> Source<'_, W> {
 
     /// The byte at a place behind a block's first four bytes.
     fn content_byte(&self, content: Content, place: usize) -> u8
-        ensures { result ≡ content_byte (source_of (layout self.now.map.now) (W.WayFinder.first self.now.finder.now) (W.WayFinder.way self.now.finder.now) self.now.keys.now) content place }
+        ensures { result ≡ content_byte (source_in W.WayFinder self.now) content place }
     {
         match content {
             Content::Stops => self.head_byte(place),
@@ -122,7 +123,7 @@ impl<W: WayFinder> Source<'_, W> {
 
     /// The byte at a place of a block, before its last word.
     pub(crate) fn block_byte(&self, content: Content, number: u8, place: usize) -> u8
-        ensures { result ≡ block_byte (source_of (layout self.now.map.now) (W.WayFinder.first self.now.finder.now) (W.WayFinder.way self.now.finder.now) self.now.keys.now) content number place }
+        ensures { result ≡ block_byte (source_in W.WayFinder self.now) content number place }
     {
         match place {
             0 => content.kind(),

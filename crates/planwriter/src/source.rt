@@ -1,7 +1,6 @@
 // The struct stands in a file of its own: it imports every `ghost use` of its file.
 ghost use Rattle.std.specs.Prelude.{◌≡◌};
 ghost use Rattle.map.specs.Layouts.{layout};
-ghost use Rattle.map.specs.Rules.{Lawful};
 ghost use Rattle.planwriter.specs.Stops.{stops_of};
 
 use crate::stops::stops_of;
@@ -11,7 +10,7 @@ use ways::finder::WayFinder;
 
 /// What is written: a floor with its stops in rising order, a way-finder and keys.
 #[derive(Drop)]
-pub(crate) struct Source<'a, W: WayFinder> {
+pub(crate) struct Source<'a, W> {
     pub(crate) map: &'a Map,
     pub(crate) finder: &'a W,
     pub(crate) keys: &'a [u16; 1024],
@@ -24,7 +23,6 @@ impl<'a, W: WayFinder> Source<'a, W> {
         ensures map { result.map.now ≡ map.now }
         ensures finder { result.finder.now ≡ finder.now }
         ensures keys { result.keys.now ≡ keys.now }
-        ensures lawful { Lawful (layout map.now) }
     {
         let stops = stops_of(map);
         Source {

@@ -4,6 +4,7 @@ ghost use Rattle.map.specs.Layouts.{layout};
 ghost use Rattle.planwriter.specs.Stops.{stops_of};
 ghost use Rattle.planwriter.specs.Promises.{ReadBack, WrittenAgain};
 ghost use Rattle.planwriter.specs.Files.{block_of, content_of, file_of, source_of, write_outcome};
+ghost use Rattle.planwriter.specs.Written.{source_in};
 
 use crate::source::Source;
 use blocks::sum::word_sum;
@@ -15,7 +16,7 @@ use ways::finder::WayFinder;
 impl<W: WayFinder> Source<'_, W> {
     /// A block of the file, by its number: 508 bytes, and the word that sees to the sum.
     fn block(&self, number: u8) -> [u8; 512]
-        ensures { result ≡ block_of (source_of (layout self.now.map.now) (W.WayFinder.first self.now.finder.now) (W.WayFinder.way self.now.finder.now) self.now.keys.now) (content_of (stops_of (layout self.now.map.now)) number) number }
+        ensures { result ≡ block_of (source_in W.WayFinder self.now) (content_of (source_in W.WayFinder self.now).stops number) number }
     {
         let content = self.content_of(number);
         let front: [u8; 508] = array::from_fn(|place| self.block_byte(content, number, place));

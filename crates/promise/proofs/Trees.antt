@@ -3,8 +3,7 @@ use Rattle.std.proofs.Common.{◌≡◌, ℕ, ◌+◌, ◌<◌, ◌≤◌, Bool,
 use borrow.Author.Tests.{eqb-false}
 use Rattle.std.proofs.lemmas.Bool.{both_ways, cases_Bool, eq-eqb, lt-ltb, le-ltb}
 use Rattle.map.specs.declared.side.Side.{Side}
-use Rattle.map.specs.declared.map.Map.{Map}
-use Rattle.map.specs.Layouts.{Layout, layout, is_stop}
+use Rattle.map.specs.Layouts.{Layout, is_stop}
 use Rattle.map.specs.Rules.{Lawful}
 use Rattle.orders.specs.declared.key.Pair.{Pair}
 use Rattle.links.specs.Links.{near}
@@ -160,6 +159,3 @@ every_tree_passes m lawful = tree_passes m lawful
 -- a plan with the ways and keys of the tree is the tree plan
 pub tree_plan : (m : Layout) (way : ℕ → ℕ → Option (Side × ℕ)) (key : ℕ → Pair ℕ ℕ) → ((t d : ℕ) → way t d ≡ tree_way m t d) → ((n : ℕ) → key n ≡ tree_key m n) → ◌≡◌ {A = Routing} (record { first = λ o d. 0; way = λ t d n. way t d; map = m; rises = by_key pair_before key }) (tree_routing m)
 tree_plan m way key p q = λ i. record { first = λ o d. 0; way = λ t d n. p t d i; map = m; rises = λ a b. pair_before (q a i) (q b i) }
-
-pub map_lawful : (m : Map) → Lawful (layout m)
-map_lawful m = let few = m.few in let counted = m.counted in record { wide = m.size.wide; high = m.size.high; tables_there = m.tables_there; segments_there = m.segments_there; stops_there = m.stops_there; few = omega arith }

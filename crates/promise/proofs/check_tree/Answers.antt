@@ -2,7 +2,8 @@ use Rattle.std.proofs.Common.{is_ok, sym, ap, ◌∙◌}
 use Rattle.map.specs.Layouts.{layout}
 use Rattle.plancheck.specs.Plans.{plan_check}
 use Rattle.tree.specs.Finders.{way_by, key_by}
-use Rattle.promise.proofs.Trees.{tree_plan, tree_passes, map_lawful}
+use Rattle.map.proofs.Rules.{map_lawful}
+use Rattle.promise.proofs.Trees.{tree_plan, tree_passes}
 use Rattle.promise.proofs.check_tree.Goals as goal
 
 pub returns : goal.returns

@@ -1,5 +1,6 @@
 use Rattle.std.proofs.Common.{◌≡◌, ◌+◌, ◌*◌, ◌++◌, length, drop, ap, ◌∙◌, arith}
 use Rattle.map.specs.Layouts.{layout}
+use Rattle.map.proofs.Rules.{map_lawful}
 use Rattle.planwriter.specs.Stops.{stops_of}
 use Rattle.planwriter.specs.Files.{Source, file_of, source_of}
 use Rattle.planwriter.proofs.Pieces.{block_moved, standing_more, standing_all}
@@ -31,11 +32,11 @@ returns-clause-later g c =
 
 pub returns-clause-layout : goal.returns-clause-layout
 returns-clause-layout g c =
-    of_layout _ (sound (layout c.args.map.now) (g.W.WayFinder.first c.args.finder.now) (g.W.WayFinder.way c.args.finder.now) c.args.keys.now c.new-source.ensures.lawful (λ s. (c.type_inv.keys s).fits))
+    of_layout _ (sound (layout c.args.map.now) (g.W.WayFinder.first c.args.finder.now) (g.W.WayFinder.way c.args.finder.now) c.args.keys.now (map_lawful c.args.map.now) (λ s. (c.type_inv.keys s).fits))
 
 pub returns-clause-back : goal.returns-clause-back
 returns-clause-back g c =
-    read_back _ (sound (layout c.args.map.now) (g.W.WayFinder.first c.args.finder.now) (g.W.WayFinder.way c.args.finder.now) c.args.keys.now c.new-source.ensures.lawful (λ s. (c.type_inv.keys s).fits))
+    read_back _ (sound (layout c.args.map.now) (g.W.WayFinder.first c.args.finder.now) (g.W.WayFinder.way c.args.finder.now) c.args.keys.now (map_lawful c.args.map.now) (λ s. (c.type_inv.keys s).fits))
 
 pub returns-clause-again : goal.returns-clause-again
 returns-clause-again g c = λ file bytes plan same. file_again (layout c.args.map.now) (g.W.WayFinder.first c.args.finder.now) (g.W.WayFinder.way c.args.finder.now) c.args.keys.now file bytes plan same

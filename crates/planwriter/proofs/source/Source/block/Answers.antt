@@ -1,17 +1,16 @@
 use Rattle.std.proofs.Common.{◌≡◌, ◌+◌, ◌-◌, ◌++◌, [], ◌∷◌, List, ℕ, length, take, map, sym, ap, ◌∙◌, rules, tests, length-append}
 use Rattle.std.proofs.lemmas.List.{take_at}
 use Rattle.std.specs.List.{range_with_len}
-use Rattle.map.specs.Layouts.{layout}
 use Rattle.blocks.specs.Words.{word_sum, big_endian}
-use Rattle.planwriter.specs.Files.{Source, source_of, block_byte, block_of}
+use Rattle.planwriter.specs.Files.{Source, block_byte, block_of}
+use Rattle.planwriter.specs.Written.{source_in}
 use Rattle.planwriter.proofs.Made.{made}
 use Rattle.planwriter.proofs.Pieces.{closed_block}
 use Rattle.planwriter.proofs.source.Source.block.Goals as goal
 
 pub returns : goal.returns
 returns g c =
-    let own = c.args.self.now in
-    let source : Source = source_of (layout own.map.now) (g.W.WayFinder.first own.finder.now) (g.W.WayFinder.way own.finder.now) own.keys.now in
+    let source : Source = source_in g.W.WayFinder c.args.self.now in
     let content = c.content_of-content.result in
     let front = c.from_fn-front.result in
     let items = c.from_fn-front.ensures.items in
