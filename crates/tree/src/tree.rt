@@ -81,7 +81,7 @@ impl Tree {
     {
         let root = self.nodes[table as usize].root;
         let other = self.nodes[destination as usize].root;
-        root.zip(other).is_some_and(|(a, b)| a == b)
+        root.is_some() && root == other
     }
 
     // The key of the segment that leaves the table on that side.
