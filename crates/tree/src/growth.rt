@@ -25,7 +25,9 @@ pub struct Growth {
     queue: ArrayVec<u8, 256>,
 }
 
-// The map is passed along: kept in the struct, each clause would have to say that it stays.
+// The map is passed along: kept in the struct, each clause would have to say that it stays. So are
+// the root, which is of one group, and the place, which is of one table: they change from call to
+// call.
 impl Growth {
     // The table joins at the end of the queue.
     fn reach(&mut self, table: u8, root: u8, depth: u8)
