@@ -1,5 +1,5 @@
 -- A tree that holds what its map has gives the map's ways and keys.
-use Rattle.std.proofs.Common.{◌≡◌, ℕ, ◌<◌, ◌≤◌, length, get_or, sym, ap, ◌∙◌, inl, inr, arith}
+use Rattle.std.proofs.Common.{◌≡◌, ℕ, ◌<◌, ◌≤◌, length, get_or, None, sym, ap, ◌∙◌, inl, inr, arith}
 use Rattle.std.proofs.lemmas.Bool.{cases_lt}
 use Rattle.std.proofs.lemmas.List.{get_or_past}
 use mathlib.Core.Path.{fun_ext}
@@ -11,10 +11,9 @@ use Rattle.links.specs.Ways.{way_over, tree_way, key_over, tree_key}
 use Rattle.links.proofs.Nearby.{Sized}
 use Rattle.links.proofs.Grown.{no_side, no_parent, sides_are, parents_are, keys_large}
 use Rattle.tree.specs.declared.growth.Growth.{Growth}
-use Rattle.tree.specs.declared.growth.Mark.{Mark}
 use Rattle.tree.specs.declared.tree.Tree.{Tree}
 use Rattle.tree.specs.declared.upward.Node.{Node}
-use Rattle.tree.specs.Growths.{unmarked, root_in, depth_in}
+use Rattle.tree.specs.Growths.{marked_root, marked_depth, root_in, depth_in}
 use Rattle.tree.specs.Nodes.{alone, node_in}
 use Rattle.tree.specs.Finders.{node_of, sides_of, parents_of, Holds, way_by, key_by}
 
@@ -31,20 +30,20 @@ module _ (m : Layout) (size : Sized m) where
       past : (t : ℕ) → 256 ≤ t → node_of w t ≡ alone
       past t l = get_or_past w.nodes t alone (omega arith)
 
-      unmarked_past : (t : ℕ) → 256 ≤ t → get_or g.marks t unmarked ≡ unmarked
-      unmarked_past t l = get_or_past g.marks t unmarked (omega arith)
+      unmarked_past : (t : ℕ) → 256 ≤ t → get_or g.marks t None ≡ None
+      unmarked_past t l = get_or_past g.marks t None (omega arith)
 
       pub held : Holds m w
       held = record {
         roots = λ t.
             elim (cases_lt t 256) [
               | inl l ↦ ap (λ (x : Node). x.root) (h t l) ∙ roots t
-              | inr p ↦ ap (λ (x : Node). x.root) (past t p) ∙ sym (ap (λ (x : Mark). x.root) (unmarked_past t p)) ∙ roots t
+              | inr p ↦ ap (λ (x : Node). x.root) (past t p) ∙ sym (ap marked_root (unmarked_past t p)) ∙ roots t
             ];
         depths = λ t.
             elim (cases_lt t 256) [
               | inl l ↦ ap (λ (x : Node). x.depth) (h t l) ∙ depths t
-              | inr p ↦ ap (λ (x : Node). x.depth) (past t p) ∙ sym (ap (λ (x : Mark). x.depth) (unmarked_past t p)) ∙ depths t
+              | inr p ↦ ap (λ (x : Node). x.depth) (past t p) ∙ sym (ap marked_depth (unmarked_past t p)) ∙ depths t
             ];
         sides = λ t.
             elim (cases_lt t 256) [

@@ -32,10 +32,9 @@ impl Upward<'_> {
     fn is_nearer(&self, table: u8, side: Side) -> bool
         ensures { result ≡ leads_up (near (layout self.now.map.now)) (depth_in self.now.growth.now) table side }
     {
-        let marks = &self.growth.marks;
-        let depth = u16::from(marks[table as usize].depth);
+        let depth = u16::from(self.growth.depth(table));
         let other = near(self.map, table, side);
-        other.is_some_and(|other| u16::from(marks[other as usize].depth) + 1 == depth)
+        other.is_some_and(|other| u16::from(self.growth.depth(other)) + 1 == depth)
     }
 
     // The side of the table's parent.
@@ -51,11 +50,10 @@ impl Upward<'_> {
     pub fn node(&self, table: u8) -> Node
         ensures { result ≡ node_in (layout self.now.map.now) self.now.growth.now table }
     {
-        let mark = self.growth.marks[table as usize];
         let side = self.side(table);
         Node {
-            root: mark.root,
-            depth: u16::from(mark.depth),
+            root: self.growth.root(table),
+            depth: u16::from(self.growth.depth(table)),
             side,
             parent: side.and_then(|side| near(self.map, table, side)),
         }
