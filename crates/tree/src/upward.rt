@@ -11,7 +11,9 @@ use map::map::Map;
 use map::side::{SIDES, Side};
 
 /// A table in its tree: its root, its depth, and its parent with the side towards it. With a depth
-/// of 16 bits a node has 8 bytes, which makes the climb from node to node faster than 7 do.
+/// of 16 bits a node has 8 bytes, which makes the climb from node to node faster than 7 do. The
+/// four stand apart: the climb asks parents only, the way sides too, the keys sides and depths only,
+/// and a table in no group has the depth 0 by the definition.
 #[derive(Clone, Copy)]
 pub struct Node {
     pub root: Option<u8>,
