@@ -9,6 +9,11 @@ use Rattle.detour.specs.Vias.{via_for}
 abbrev pub code : ℕ → ℕ → ℕ
 code i h = 257 * i + h
 
+-- the h of a tray on its way to the via, or to its destination
+abbrev pub on_way_to : Option ℕ → ℕ
+on_way_to None = 0
+on_way_to (Some v) = v + 1
+
 -- a note that is no code: it is given where i is too large, and has no way
 abbrev pub no_code : ℕ
 no_code = 4294967295

@@ -1,6 +1,6 @@
-ghost use Rattle.std.specs.Prelude.{◌≡◌, ◌≤◌, cond, Some, None};
+ghost use Rattle.std.specs.Prelude.{◌≡◌, ◌/◌, ◌%◌, cond, Some, None};
 ghost use Rattle.detour.specs.Vias.{no_vias, add_via, remove_via, told, after};
-ghost use Rattle.detour.specs.Detours.{code, fits, carried, detour_first, detour_way, way_under, with_vias};
+ghost use Rattle.detour.specs.Detours.{code, on_way_to, fits, carried, detour_first, detour_way, way_under, with_vias};
 ghost use Rattle.detour.specs.Promises.{ViaSet, Changed};
 
 use crate::refusal::Refusal;
@@ -69,11 +69,12 @@ impl<W> Detour<W> {
     }
 }
 
-/// The code of a note of the one below with h, where one is formed.
-fn code(note: u32, h: u32) -> Option<u32>
-    requires { h ≤ 256 }
-    ensures { result ≡ cond (fits note) (Some (code note h)) None }
+/// The code of a note of the one below with the via that the tray is on its way to, where one is
+/// formed.
+fn code(note: u32, via: Option<u8>) -> Option<u32>
+    ensures { result ≡ cond (fits note) (Some (code note (on_way_to via))) None }
 {
+    let h = via.map_or(0, |via| u32::from(via) + 1);
     if note <= MOST {
         Some(257 * note + h)
     } else {
@@ -81,13 +82,24 @@ fn code(note: u32, h: u32) -> Option<u32>
     }
 }
 
-/// The way below, its note coded with h.
-fn carry(below: Option<(Side, u32)>, h: u32) -> Option<(Side, u32)>
-    requires { h ≤ 256 }
-    ensures { result ≡ carried h below }
+/// The note of the one below that a code holds, and the via that the tray is on its way to.
+fn decode(code: u32) -> (u32, Option<u8>)
+    ensures below { result.0 ≡ code / 257 }
+    ensures via { on_way_to result.1 ≡ code % 257 }
+{
+    let via = match code % 257 {
+        0 => None,
+        h => Some((h - 1) as u8),
+    };
+    (code / 257, via)
+}
+
+/// The way below, its note coded with the via.
+fn carry(below: Option<(Side, u32)>, via: Option<u8>) -> Option<(Side, u32)>
+    ensures { result ≡ carried (on_way_to via) below }
 {
     let (side, note) = below?;
-    Some((side, code(note, h)?))
+    Some((side, code(note, via)?))
 }
 
 impl<W: WayFinder> WayFinder for Detour<W> {
@@ -96,26 +108,23 @@ impl<W: WayFinder> WayFinder for Detour<W> {
     ghost way = { λ w t d n. detour_way (W.WayFinder.first w.below) (W.WayFinder.way w.below) t d n };
 
     fn first_note(&self, origin: u8, destination: u8) -> u32 {
-        let (to, h) = match self.vias.find(origin, destination) {
-            None => (destination, 0),
-            Some(via) => (via, u32::from(via) + 1),
-        };
-        code(self.below.first_note(origin, to), h).unwrap_or(NO_CODE)
+        let via = self.vias.find(origin, destination);
+        let below = self.below.first_note(origin, via.unwrap_or(destination));
+        code(below, via).unwrap_or(NO_CODE)
     }
 
     fn way(&self, table: u8, destination: u8, note: u32) -> Option<(Side, u32)> {
         if note == NO_CODE {
             return None;
         }
-        let (below, h) = (note / 257, note % 257);
-        if h == 0 {
-            return carry(self.below.way(table, destination, below), 0);
+        let (below, via) = decode(note);
+        match via {
+            None => carry(self.below.way(table, destination, below), None),
+            Some(via) if table == via => {
+                let first = self.below.first_note(table, destination);
+                carry(self.below.way(table, destination, first), None)
+            }
+            Some(via) => carry(self.below.way(table, via, below), Some(via)),
         }
-        let via = (h - 1) as u8;
-        if table == via {
-            let first = self.below.first_note(table, destination);
-            return carry(self.below.way(table, destination, first), 0);
-        }
-        carry(self.below.way(table, via, below), h)
     }
 }

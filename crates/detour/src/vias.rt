@@ -17,7 +17,8 @@ impl Via {
     }
 }
 
-/// Up to 32 vias, each in a place of its own: an array, since the library has no heap.
+/// Up to 32 vias, each in a place of its own: an array, since `Detour` is `Copy` and an `ArrayVec`
+/// is not.
 #[derive(Clone, Copy)]
 pub struct Vias {
     pub(crate) places: [Option<Via>; 32],

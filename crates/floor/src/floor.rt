@@ -1,4 +1,5 @@
 ghost use Rattle.std.specs.Prelude.{◌≡◌, ◌<◌, IfOk};
+ghost use Rattle.std.specs.Option.{unwrap_or};
 ghost use Rattle.trays.specs.Outcomes.{next, ask, enter_outcome, enter_later, advance_outcome, advance_later, look_outcome, counts_outcome};
 ghost use Rattle.trays.specs.Lefts.{walk, left_outcome, LeftTells};
 ghost use Rattle.floor.specs.Floors.{site_in, with_trays, empty_floor, entered_fields, moved_fields, counts_fields};
@@ -71,7 +72,7 @@ impl<W: WayFinder> Floor<W> {
             .checked_add(1)
             .ok_or(Refusal::NumbersUsedUp)?;
         let first = self.finder.first_note(origin, destination);
-        let (segment, note) = self.ask(NO_SEGMENT, origin, destination, first)?;
+        let (segment, note) = self.ask(None, origin, destination, first)?;
         let _ = self.trays.records[segment as usize].replace(Tray {
             number: tray,
             destination,
@@ -100,7 +101,7 @@ impl<W: WayFinder> Floor<W> {
                 segment: NO_SEGMENT,
             });
         }
-        let (wanted, note) = self.ask(segment, head, tray.destination, tray.note)?;
+        let (wanted, note) = self.ask(Some(segment), head, tray.destination, tray.note)?;
         let _ = self.trays.records[wanted as usize].replace(Tray {
             note,
             advances,
@@ -144,11 +145,19 @@ impl<W: WayFinder> Floor<W> {
         }
     }
 
-    /// The segment that a tray at the table wants, with the note carried there.
-    fn next(&self, held: u16, table: u8, destination: u8, note: u32) -> Result<(u16, u32), Refusal>
+    /// The segment that a tray at the table wants, with the note carried there. The check of the
+    /// routes takes the same step by itself: each has its own rule's words and refusals.
+    fn next(
+        &self,
+        held: Option<u16>,
+        table: u8,
+        destination: u8,
+        note: u32,
+    ) -> Result<(u16, u32), Refusal>
         ensures small { IfOk result (λ a. a.0 < 1024) }
-        ensures is { result ≡ next (site_in W.WayFinder self.now) held table destination note }
+        ensures is { result ≡ next (site_in W.WayFinder self.now) (unwrap_or held 65535) table destination note }
     {
+        let held = held.unwrap_or(NO_SEGMENT);
         let way = self.finder.way(table, destination, note);
         let (side, carried) = way.ok_or(Refusal::NoWay(held, NO_SEGMENT))?;
         let wanted = side.segment_from(table);
@@ -162,12 +171,19 @@ impl<W: WayFinder> Floor<W> {
     }
 
     /// The same, where no tray is on that segment.
-    fn ask(&self, held: u16, table: u8, destination: u8, note: u32) -> Result<(u16, u32), Refusal>
+    fn ask(
+        &self,
+        held: Option<u16>,
+        table: u8,
+        destination: u8,
+        note: u32,
+    ) -> Result<(u16, u32), Refusal>
         ensures small { IfOk result (λ a. a.0 < 1024) }
-        ensures is { result ≡ ask (site_in W.WayFinder self.now) self.now.trays held table destination note }
+        ensures is { result ≡ ask (site_in W.WayFinder self.now) self.now.trays (unwrap_or held 65535) table destination note }
     {
         let (wanted, carried) = self.next(held, table, destination, note)?;
         if self.trays.records[wanted as usize].is_some() {
+            let held = held.unwrap_or(NO_SEGMENT);
             return Err(Refusal::WantedTaken(held, wanted));
         }
         Ok((wanted, carried))
@@ -187,7 +203,7 @@ impl<W: WayFinder> Floor<W> {
             if count == MOST_SEGMENTS {
                 break;
             }
-            (at, carried) = self.next(at, head, destination, carried)?;
+            (at, carried) = self.next(Some(at), head, destination, carried)?;
         }
         Err(Refusal::TooLong)
     }

@@ -9,7 +9,8 @@ pub enum Call {
     Advance(u16),
 }
 
-/// A call with its outcome.
+/// A call with its outcome: three cases, and no `Result` beside the call, since the promise's
+/// definitions speak of these three.
 #[derive(Clone, Copy, PartialEq, Eq, Debug)]
 pub enum Event {
     Refused(Call, Refusal),

@@ -1,20 +1,21 @@
 -- Counting the tables that have no root yet.
-use Rattle.std.proofs.Common.{◌≡◌, ℕ, zero, suc, ◌+◌, ◌<◌, cond, List, [], ◌∷◌, length, get_or, set, replicate, is_some, Some, None, Option, refl, ap, arith}
+use Rattle.std.proofs.Common.{◌≡◌, ℕ, zero, suc, ◌+◌, ◌<◌, List, [], ◌∷◌, length, get_or, set, replicate, Some, None, Option, sym, refl, arith}
+use Rattle.links.proofs.Chains.{none_some}
 use Rattle.tree.specs.declared.growth.Mark.{Mark}
-use Rattle.tree.specs.Growths.{unmarked, missing}
+use Rattle.tree.specs.Growths.{marked_root, missing}
 
-pub missing_all : (n : ℕ) → missing (replicate n unmarked) ≡ n
+pub missing_all : (n : ℕ) → missing (replicate n None) ≡ n
 missing_all zero = refl
 missing_all (suc n) = omega (arith, missing_all n)
 
-weight : Option ℕ → ℕ
-weight o = cond (is_some o) 0 1
-
-pub missing_set : (xs : List Mark) (i r e : ℕ) → i < length xs → (get_or xs i unmarked).root ≡ None → missing (set xs i (record { root = Some r; depth = e })) + 1 ≡ missing xs
-unfolding weight
+pub missing_set : (xs : List (Option Mark)) (i r e : ℕ) → i < length xs → marked_root (get_or xs i None) ≡ None → missing (set xs i (Some (record { root = r; depth = e }))) + 1 ≡ missing xs
 missing_set [] i r e h n = absurd (omega arith)
-missing_set (x ∷ xs) zero r e h n = let w : weight x.root ≡ 1 = ap weight n in omega arith
+missing_set (None ∷ xs) zero r e h n = omega arith
+missing_set (Some x ∷ xs) zero r e h n = absurd (none_some x.root (sym n))
 missing_set (x ∷ xs) (suc i) r e h n = omega (arith, missing_set xs i r e (omega arith) n)
+
+abbrev unmarked : Option Mark
+unmarked = None
 
 pub unmarked_at : (n i : ℕ) → get_or (replicate n unmarked) i unmarked ≡ unmarked
 unmarked_at zero i = refl

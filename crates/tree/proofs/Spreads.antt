@@ -12,8 +12,7 @@ use Rattle.links.specs.Groups.Chain.{stay, link}
 use Rattle.links.proofs.Chains.{none_some, same_some}
 use Rattle.links.proofs.Nearby.{Sized, near_both, near_within, near_present}
 use Rattle.tree.specs.declared.growth.Growth.{Growth}
-use Rattle.tree.specs.declared.growth.Mark.{Mark}
-use Rattle.tree.specs.Growths.{unmarked, root_in, depth_in, placed, count, reached, From, Sound, Spreading, Seen, Kept}
+use Rattle.tree.specs.Growths.{marked_root, marked_depth, root_in, depth_in, placed, count, reached, From, Sound, Spreading, Seen, Kept}
 use Rattle.tree.proofs.Missing.{missing_set}
 
 -- the root is the table itself, or it was reached before
@@ -31,19 +30,19 @@ module _ (m : Layout) (taken : ℕ) (g : Growth) (u r e : ℕ) (h : Sound m take
   free = room m taken g u h small fresh
 
   root_new : root_in new u ≡ Some r
-  root_new = ap (λ (x : Mark). x.root) (get_or-set_same g.marks u _ unmarked (omega (arith, h.marks_long)))
+  root_new = ap marked_root (get_or-set_same g.marks u _ None (omega (arith, h.marks_long)))
 
   depth_new : depth_in new u ≡ e
-  depth_new = ap (λ (x : Mark). x.depth) (get_or-set_same g.marks u _ unmarked (omega (arith, h.marks_long)))
+  depth_new = ap marked_depth (get_or-set_same g.marks u _ None (omega (arith, h.marks_long)))
 
   place_new : placed new (count g) ≡ u
   place_new = get_or_push g.queue.items u 0 (count g) refl
 
   root_old : (t : ℕ) → (t ≡ u → ⊥) → root_in new t ≡ root_in g t
-  root_old t ne = ap (λ (x : Mark). x.root) (get_or-set_other g.marks u t _ unmarked ne)
+  root_old t ne = ap marked_root (get_or-set_other g.marks u t _ None ne)
 
   depth_old : (t : ℕ) → (t ≡ u → ⊥) → depth_in new t ≡ depth_in g t
-  depth_old t ne = ap (λ (x : Mark). x.depth) (get_or-set_other g.marks u t _ unmarked ne)
+  depth_old t ne = ap marked_depth (get_or-set_other g.marks u t _ None ne)
 
   place_old : (i : ℕ) → i < count g → placed new i ≡ placed g i
   place_old i l = get_or_append_left g.queue.items (u ∷ []) 0 i l

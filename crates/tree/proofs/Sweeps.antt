@@ -13,24 +13,24 @@ use Rattle.links.proofs.Nearby.{Sized, near_both, present_small}
 use Rattle.links.proofs.Grown.{root_present, root_absent, depth_some, depth_is, depth_none, alone}
 use Rattle.tree.specs.declared.growth.Growth.{Growth}
 use Rattle.tree.specs.declared.growth.Mark.{Mark}
-use Rattle.tree.specs.Growths.{unmarked, count, root_in, depth_in, From, Sound, Kept, Swept}
+use Rattle.tree.specs.Growths.{marked_root, marked_depth, count, root_in, depth_in, From, Sound, Kept, Swept}
 use Rattle.tree.proofs.Missing.{missing_all, unmarked_at}
 
 abbrev pub bare : Growth
-bare = record { marks = replicate 256 unmarked; queue = record { items = [] } }
+bare = record { marks = replicate 256 None; queue = record { items = [] } }
 
 pub swept_none : (m : Layout) → Swept m 0 bare
 swept_none m = record {
   sound = record {
-    marks_long = length-replicate {A = Mark} 256 unmarked;
+    marks_long = length-replicate {A = Option Mark} 256 None;
     counted = missing_all 256;
     taken_few = omega arith;
     small = λ i l. absurd (omega arith);
     shallow = λ i l. absurd (omega arith);
     known = λ i l. absurd (omega arith);
-    queued = λ t r e. absurd (none_some r (sym (ap (λ (x : Mark). x.root) (unmarked_at 256 t)) ∙ e));
-    from = λ t r e. absurd (none_some r (sym (ap (λ (x : Mark). x.root) (unmarked_at 256 t)) ∙ e));
-    unknown = λ t e. ap (λ (x : Mark). x.depth) (unmarked_at 256 t);
+    queued = λ t r e. absurd (none_some r (sym (ap marked_root (unmarked_at 256 t)) ∙ e));
+    from = λ t r e. absurd (none_some r (sym (ap marked_root (unmarked_at 256 t)) ∙ e));
+    unknown = λ t e. ap marked_depth (unmarked_at 256 t);
     around = λ i u s l e. absurd (omega arith);
   };
   done = λ x l p. absurd (omega arith);

@@ -8,7 +8,7 @@ use Rattle.links.specs.Trees.{root_of, depth, parent_side, parent_of}
 use Rattle.links.specs.Ways.{way_over, key_over}
 use Rattle.tree.specs.declared.tree.Tree.{Tree}
 use Rattle.tree.specs.declared.upward.Node.{Node}
-use Rattle.tree.specs.Nodes.{alone}
+use Rattle.tree.specs.Nodes.{alone, side_up, parent_up}
 
 -- what a tree holds of a table
 abbrev pub node_of : Tree → ℕ → Node
@@ -22,10 +22,10 @@ abbrev pub depths_of : Tree → ℕ → ℕ
 depths_of w t = (node_of w t).depth
 
 abbrev pub sides_of : Tree → ℕ → Option Side
-sides_of w t = (node_of w t).side
+sides_of w t = side_up (node_of w t).up
 
 abbrev pub parents_of : Tree → ℕ → Option ℕ
-parents_of w t = (node_of w t).parent
+parents_of w t = parent_up (node_of w t).up
 
 -- the tree holds the roots, depths and parents of the map
 pub record Holds (m : Layout) (w : Tree) : Type 0 where

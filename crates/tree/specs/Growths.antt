@@ -7,17 +7,22 @@ use Rattle.links.specs.Groups.{Chain, RootOf}
 use Rattle.tree.specs.declared.growth.Growth.{Growth}
 use Rattle.tree.specs.declared.growth.Mark.{Mark}
 
--- of a table that was not reached
-abbrev pub unmarked : Mark
-unmarked = record { root = None; depth = 0 }
+-- the root in a mark, and the depth: 0 where there is no mark
+abbrev pub marked_root : Option Mark → Option ℕ
+marked_root None = None
+marked_root (Some x) = Some x.root
+
+abbrev pub marked_depth : Option Mark → ℕ
+marked_depth None = 0
+marked_depth (Some x) = x.depth
 
 -- the root of a table that was reached
 abbrev pub root_in : Growth → ℕ → Option ℕ
-root_in g t = (slice_index_or g.marks t unmarked).root
+root_in g t = marked_root (slice_index_or g.marks t None)
 
 -- its depth
 abbrev pub depth_in : Growth → ℕ → ℕ
-depth_in g t = (slice_index_or g.marks t unmarked).depth
+depth_in g t = marked_depth (slice_index_or g.marks t None)
 
 -- the table at that place of the queue
 abbrev pub placed : Growth → ℕ → ℕ
@@ -28,13 +33,13 @@ abbrev pub count : Growth → ℕ
 count g = length g.queue.items
 
 -- how many tables have no root yet
-abbrev pub missing : List Mark → ℕ
+abbrev pub missing : List (Option Mark) → ℕ
 missing [] = 0
-missing (x ∷ xs) = cond (is_some x.root) 0 1 + missing xs
+missing (x ∷ xs) = cond (is_some x) 0 1 + missing xs
 
 -- t joins at the end of the queue
 abbrev pub reached : Growth → ℕ → ℕ → ℕ → Growth
-reached g t r e = record { marks = slice_set g.marks t (record { root = Some r; depth = e }); queue = record { items = g.queue.items ++ t ∷ [] } }
+reached g t r e = record { marks = slice_set g.marks t (Some (record { root = r; depth = e })); queue = record { items = g.queue.items ++ t ∷ [] } }
 
 -- t was reached from r: the lowest table of its group, which was reached itself
 pub record From (m : Layout) (g : Growth) (t r : ℕ) : Type 0 where

@@ -10,32 +10,45 @@ use arrayvec::ArrayVec;
 use map::map::Map;
 use map::side::{SIDES, Side};
 
-/// What is known of a table: its root, once it was reached, and its depth.
+/// What is known of a table that was reached.
 #[derive(Clone, Copy)]
 pub struct Mark {
-    pub root: Option<u8>,
-    pub depth: u8,
+    root: u8,
+    depth: u8,
 }
 
 /// The marks of the tables, and those reached so far in the order in which they were reached:
 /// nothing on the heap.
 #[derive(Drop)]
 pub struct Growth {
-    pub marks: [Mark; 256],
+    marks: [Option<Mark>; 256],
     queue: ArrayVec<u8, 256>,
 }
 
-// The map is passed along: kept in the struct, each clause would have to say that it stays.
+// The map is passed along: kept in the struct, each clause would have to say that it stays. So are
+// the root, which is of one group, and the place, which is of one table: they change from call to
+// call.
 impl Growth {
+    /// The root of the table, once it was reached.
+    pub(crate) fn root(&self, table: u8) -> Option<u8>
+        ensures { result ≡ root_in self.now table }
+    {
+        self.marks[table as usize].map(|mark| mark.root)
+    }
+
+    /// Its depth, or 0 before it was reached.
+    pub(crate) fn depth(&self, table: u8) -> u8
+        ensures { result ≡ depth_in self.now table }
+    {
+        self.marks[table as usize].map_or(0, |mark| mark.depth)
+    }
+
     // The table joins at the end of the queue.
     fn reach(&mut self, table: u8, root: u8, depth: u8)
         requires { count self.old < 256 }
         ensures { self.new ≡ reached self.old table root depth }
     {
-        self.marks[table as usize] = Mark {
-            root: Some(root),
-            depth,
-        };
+        self.marks[table as usize] = Some(Mark { root, depth });
         self.queue.push(table);
     }
 
@@ -58,8 +71,8 @@ impl Growth {
         let Some(other) = near(map, table, side) else {
             return;
         };
-        if self.marks[other as usize].root.is_none() {
-            let depth = self.marks[table as usize].depth + 1;
+        if self.root(other).is_none() {
+            let depth = self.depth(table) + 1;
             self.reach(other, root, depth);
         }
     }
@@ -102,7 +115,7 @@ impl Growth {
         requires { Swept (layout map.now) table self.old }
         ensures { Swept (layout map.now) (table + 1) self.new }
     {
-        if is_present(map, table) && self.marks[table as usize].root.is_none() {
+        if is_present(map, table) && self.root(table).is_none() {
             self.spread(map, table);
         }
     }
@@ -114,10 +127,7 @@ pub fn grow(map: &Map) -> Growth
     ensures depths { (t : ℕ) → depth_in result t ≡ depth (layout map.now) t }
 {
     let mut growth = Growth {
-        marks: [Mark {
-            root: None,
-            depth: 0,
-        }; 256],
+        marks: [None; 256],
         queue: ArrayVec::new(),
     };
     for table in 0..=255u8 {

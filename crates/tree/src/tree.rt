@@ -56,7 +56,7 @@ impl Tree {
     {
         let mut x = destination;
         for _ in 0..255u16 {
-            let parent = self.nodes[x as usize].parent?;
+            let parent = self.nodes[x as usize].up?.parent;
             if parent == table {
                 return Some(x);
             }
@@ -70,8 +70,8 @@ impl Tree {
         ensures { result ≡ towards (sides_of self.now) table (child_on (parents_of self.now) 255 table destination) }
     {
         match self.child(table, destination) {
-            None => self.nodes[table as usize].side,
-            Some(child) => self.nodes[child as usize].side.map(Side::opposite),
+            None => self.nodes[table as usize].up.map(|up| up.side),
+            Some(child) => self.nodes[child as usize].up.map(|up| up.side.opposite()),
         }
     }
 
@@ -81,7 +81,7 @@ impl Tree {
     {
         let root = self.nodes[table as usize].root;
         let other = self.nodes[destination as usize].root;
-        root.zip(other).is_some_and(|(a, b)| a == b)
+        root.is_some() && root == other
     }
 
     // The key of the segment that leaves the table on that side.
@@ -89,7 +89,7 @@ impl Tree {
         ensures { result ≡ key_at (beside 16 16) (depths_of self.now) (sides_of self.now) table side }
     {
         let node = &self.nodes[table as usize];
-        if node.side == Some(side) {
+        if node.up.is_some_and(|up| up.side == side) {
             return Pair {
                 first: 0,
                 second: 255u16.saturating_sub(node.depth),
@@ -100,7 +100,7 @@ impl Tree {
             return OFF_TREE;
         };
         let child = &self.nodes[other as usize];
-        if child.side == Some(side.opposite()) {
+        if child.up.is_some_and(|up| up.side == side.opposite()) {
             Pair {
                 first: 1,
                 second: child.depth,

@@ -8,7 +8,7 @@ use Rattle.tree.proofs.growth.Growth.reach_group.Goals.{else-is_present-via-then
 
 pub spread-requires : goal.spread-requires
 spread-requires c =
-    let fresh = none_is _ c.if-is_none.ensures in
+    let fresh = sym c.root.ensures ∙ none_is _ c.if-is_none.ensures in
     record {
       sound = c.requires.sound;
       fresh = fresh;
@@ -25,6 +25,6 @@ returns-else-is_present c =
     let m = layout c.args.map.now in
     let size = map_sized c.args.map.now in
     elim c.else-is_present.branch [
-      | else-is_present-via-then-is_present+else-is_none w ↦ (let k = some_is _ w.if-is_none.ensures in swept_known m size c.args.table c.args.self.now c.requires k.0 k.1)
+      | else-is_present-via-then-is_present+else-is_none w ↦ (let k = some_is _ w.if-is_none.ensures in swept_known m size c.args.table c.args.self.now c.requires k.0 (sym w.root.ensures ∙ k.1))
       | else-is_present-via-else-is_present w ↦ swept_gone m size c.args.table c.args.self.now c.requires (sym c.is_present.ensures ∙ w.if-is_present.false)
     ]

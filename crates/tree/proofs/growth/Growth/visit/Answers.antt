@@ -11,16 +11,16 @@ pub overflow_add-depth : goal.overflow_add-depth
 overflow_add-depth c =
     let h = c.requires.spreading in
     let over = ap (λ t. near (layout c.args.map.now) t c.args.side) (sym c.placed-table.ensures) ∙ sym c.near.ensures ∙ c.in-Some.is in
-    let free : (count c.args.self.now) < 256 = room _ _ _ _ h.sound (within _ (map_sized c.args.map.now) _ _ _ h c.requires.within _ _ over) (none_is _ c.if-is_none.ensures) in
+    let free : (count c.args.self.now) < 256 = room _ _ _ _ h.sound (within _ (map_sized c.args.map.now) _ _ _ h c.requires.within _ _ over) (sym c.root.ensures ∙ none_is _ c.if-is_none.ensures) in
     let low = h.sound.shallow c.args.place c.requires.within in
-    let here = ap (depth_in c.args.self.now) c.placed-table.ensures in
+    let here = c.depth-depth.ensures ∙ ap (depth_in c.args.self.now) c.placed-table.ensures in
     omega arith
 
 pub reach-requires : goal.reach-requires
 reach-requires c =
     let h = c.requires.spreading in
     let over = ap (λ t. near (layout c.args.map.now) t c.args.side) (sym c.placed-table.ensures) ∙ sym c.near.ensures ∙ c.in-Some.is in
-    room _ _ _ _ h.sound (within _ (map_sized c.args.map.now) _ _ _ h c.requires.within _ _ over) (none_is _ c.if-is_none.ensures)
+    room _ _ _ _ h.sound (within _ (map_sized c.args.map.now) _ _ _ h c.requires.within _ _ over) (sym c.root.ensures ∙ none_is _ c.if-is_none.ensures)
 
 pub returns-in_default : goal.returns-in_default
 returns-in_default c = record {
@@ -33,12 +33,12 @@ pub returns-then-is_none : goal.returns-then-is_none
 returns-then-is_none c =
     let size = map_sized c.args.map.now in
     let over = ap (λ t. near (layout c.args.map.now) t c.args.side) (sym c.placed-table.ensures) ∙ sym c.near.ensures ∙ c.in-Some.is in
-    let fresh = none_is _ c.if-is_none.ensures in
+    let fresh = sym c.root.ensures ∙ none_is _ c.if-is_none.ensures in
     let is = sym c.reach.ensures in
     record {
-      spreading = subst (λ g. Spreading (layout c.args.map.now) c.args.root c.args.place g) is (spreading_new _ size _ _ _ c.requires.spreading c.requires.within _ _ over _ fresh (ap (λ t. depth_in c.args.self.now t + 1) c.placed-table.ensures));
-      kept = subst (λ g. Kept c.args.self.now g) is (kept_new _ size _ _ _ c.requires.spreading c.requires.within _ _ over _ fresh (ap (λ t. depth_in c.args.self.now t + 1) c.placed-table.ensures));
-      seen = subst (λ g. Seen (layout c.args.map.now) c.args.root c.args.place c.args.side g) is (seen_new _ size _ _ _ c.requires.spreading c.requires.within _ _ over _ fresh (ap (λ t. depth_in c.args.self.now t + 1) c.placed-table.ensures));
+      spreading = subst (λ g. Spreading (layout c.args.map.now) c.args.root c.args.place g) is (spreading_new _ size _ _ _ c.requires.spreading c.requires.within _ _ over _ fresh (ap (λ n. n + 1) (c.depth-depth.ensures ∙ ap (depth_in c.args.self.now) c.placed-table.ensures)));
+      kept = subst (λ g. Kept c.args.self.now g) is (kept_new _ size _ _ _ c.requires.spreading c.requires.within _ _ over _ fresh (ap (λ n. n + 1) (c.depth-depth.ensures ∙ ap (depth_in c.args.self.now) c.placed-table.ensures)));
+      seen = subst (λ g. Seen (layout c.args.map.now) c.args.root c.args.place c.args.side g) is (seen_new _ size _ _ _ c.requires.spreading c.requires.within _ _ over _ fresh (ap (λ n. n + 1) (c.depth-depth.ensures ∙ ap (depth_in c.args.self.now) c.placed-table.ensures)));
     }
 
 pub returns-else-is_none : goal.returns-else-is_none
@@ -48,5 +48,5 @@ returns-else-is_none c =
     record {
       spreading = c.requires.spreading;
       kept = kept_all c.args.self.now;
-      seen = seen_old _ (map_sized c.args.map.now) _ _ _ c.requires.spreading c.requires.within _ _ over k.0 k.1;
+      seen = seen_old _ (map_sized c.args.map.now) _ _ _ c.requires.spreading c.requires.within _ _ over k.0 (sym c.root.ensures ∙ k.1);
     }
