@@ -33,7 +33,7 @@ POINTS = [
     ("4", "a conversion by hand from a word or a number", "",
      [r"fn (?:of_segment|entry_way)\([^\n]*\n[^\n]*\n *\{\n(?: *//[^\n]*\n)* *match", r"number\(\) == ", r"fn read\(word: &str\)", r"fn (?:told\(verdict|unchecked\(plan|reversed\()"]),
     ("4", "printing by hand: a local for each field, an impl for an error's text", "",
-     [r"^ *let \w+ = (?:self|refusal|pass|entered|moved|tray|counts|map)\.[\w.]+(?:\(\))?;\n(?=(?:[^\n]*\n){0,9}[^\n]*write!)", r"^impl fmt::Display for (?:Wrong|Said|Fault) "]),
+     [r"^ *let \w+ = (?:self|refusal|pass|entered|moved|tray|counts|map)\.[a-z][\w.]*(?:\(\))?;\n(?=(?:[^\n]*\n){0,9}[^\n]*write!)", r"^impl fmt::Display for (?:Wrong|Said|Fault) "]),
     ("5", "parameters that travel together, in the head of a function", "",
      [r"\((?:[^()\n]*, )?map: &Map, (?:depths|finder|keys|stops)[^\n]*", r"^ *map: &Map,\n *(?:finder|keys|stops)[^\n]*", r"\((?:&mut self, )?map: &Map, root: u8[^\n]*", r"\(head: Head, (?:body|content|stop|part|segment|table)[^\n]*"]),
     ("5", "a fact in the contracts of three functions and more", "",

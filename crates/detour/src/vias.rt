@@ -10,6 +10,7 @@ pub struct Via {
 }
 
 impl Via {
+    // Two numbers and no pair: calls and way-finders are asked with the two.
     fn is_of(&self, origin: u8, destination: u8) -> bool
         ensures { result ≡ matches origin destination (Some self.now) }
     {

@@ -51,7 +51,8 @@ impl Ranker for Named {
 }
 
 /// The way-finder of a plan: the named plan's, with up to three detours, one over the other.
-// A variant for each number of detours, since a box in a detour would need the heap.
+// A variant for each number of detours, since a box in a detour would need the heap; and an arm for
+// each, since no function may hand out a `&dyn WayFinder` that it made.
 #[derive(Clone, Copy)]
 pub enum Finder {
     Bare(Named),

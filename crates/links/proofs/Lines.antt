@@ -16,10 +16,6 @@ module _ (parent : ℕ → Option ℕ) where
   unfolding upper
   upper_is x p e = ap (λ o. or_self o x) e
 
-  pub upper_none : (x : ℕ) → parent x ≡ None → upper x ≡ x
-  unfolding upper
-  upper_none x e = ap (λ o. or_self o x) e
-
   pub child_here : (n t x p : ℕ) → 0 < n → parent x ≡ Some p → p ≡ t → child_on parent n t x ≡ Some x
   unfolding child_on
   child_here zero t x p z e f = absurd (omega arith)

@@ -1,6 +1,6 @@
 -- The open links of a floor of at most 16 by 16 lead both ways, between tables of the floor.
 use Rattle.std.proofs.Common.{◌≡◌, ℕ, ◌+◌, ◌-◌, ◌/◌, ◌%◌, ◌<◌, ◌≤◌, Bool, true, false, cond, not, ltb, Some, None, Option, refl, ap, ◌∙◌, subst, arith}
-use Rattle.std.proofs.lemmas.Bool.{cond-true, cond-false, and_from, and_parts, both_ways, lt-ltb, ltb-true}
+use Rattle.std.proofs.lemmas.Bool.{cond-true, and_from, and_parts, both_ways, lt-ltb, ltb-true}
 use Rattle.map.specs.declared.map.Map.{Map}
 use Rattle.map.specs.declared.side.Side.{Side}
 use Rattle.map.specs.declared.side.Side.TheVariants.{North, East, South, West}
@@ -184,11 +184,3 @@ module _ (m : Layout) (size : Sized m) where
 
   pub present_small : (t : ℕ) → present m t ≡ true → t < 256
   present_small t e = let o : (t % 16 < m.width) × (t / 16 < m.height) = floor_to m.width m.height t (and_parts _ _ e).0 in let w = size.wide in let h = size.high in omega arith
-
-pub near_open : (m : Layout) (t : ℕ) (s : Side) → link_open m t s ≡ true → near m t s ≡ beside_in m t s
-unfolding near
-near_open m t s e = cond-true _ _ _ e
-
-pub near_shut : (m : Layout) (t : ℕ) (s : Side) → link_open m t s ≡ false → near m t s ≡ None
-unfolding near
-near_shut m t s e = cond-false _ _ _ e

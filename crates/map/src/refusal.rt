@@ -11,6 +11,7 @@ pub enum Refusal {
 }
 
 impl Refusal {
+    // Not a `From`: where it is told, `number` says what is told of it.
     pub fn number(self) -> u8
         ensures { result ≡ refusal_number self }
     {

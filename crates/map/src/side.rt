@@ -62,6 +62,7 @@ impl Side {
         }
     }
 
+    // A plain number: calls take and answer segments so, and any number may be asked about.
     /// The number of the segment that leaves the table on this side.
     pub fn segment_from(self, table: u8) -> u16
         ensures is { result ≡ segment table self }

@@ -27,7 +27,7 @@ impl Size {
         ensures made { IfOk result (λ s. (s.width ≡ width) × (s.height ≡ height)) }
         ensures refused { IfErr result (λ e. e ≡ BadSize) }
     {
-        if width < 1 || width > 16 || height < 1 || height > 16 {
+        if !(1..=16).contains(&width) || !(1..=16).contains(&height) {
             return Err(Refusal::BadSize);
         }
         Ok(Size { width, height })

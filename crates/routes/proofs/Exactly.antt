@@ -1,5 +1,5 @@
 -- The answer is a number exactly where a route has that many segments.
-use Rattle.std.proofs.Common.{◌≡◌, ℕ, zero, suc, ◌+◌, ◌-◌, ◌<◌, ◌≤◌, true, ◌⊎◌, List, length, Some, None, Ok, Option, Result, sym, refl, ap, ◌∙◌, inl, inr, arith}
+use Rattle.std.proofs.Common.{◌≡◌, ℕ, zero, suc, ◌+◌, ◌-◌, ◌<◌, true, ◌⊎◌, List, length, Some, None, Ok, Option, Result, sym, refl, ap, ◌∙◌, inl, inr, arith}
 use Rattle.map.specs.Sides.{segment}
 use Rattle.routes.specs.declared.refusal.Refusal.{Refusal}
 use Rattle.routes.specs.Routings.{Routing, follows}
@@ -85,10 +85,3 @@ module _ (s : Routing) (o d : ℕ) where
     short = λ qs r. (counts s proper o d (length qs) (routed proper qs r)).1;
     once = once proper;
   }
-
-pub exact_short : (s : Routing) (o d n : ℕ) → Exact s o d (Ok n) → n ≤ 960
-exact_short s o d n x =
-    let found = x.passes n refl in
-    let long = found.2 in
-    let short = x.short found.0 found.1 in
-    omega arith

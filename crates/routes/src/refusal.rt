@@ -13,6 +13,7 @@ pub enum Reason {
 }
 
 impl Reason {
+    // Not a `From`: where it is told, `number` says what is told of it.
     pub fn number(self) -> u8
         ensures { result ≡ reason_number self }
     {

@@ -42,11 +42,3 @@ module _ (s : Site) (rises : ℕ → ℕ → Bool) (d : ℕ) where
       let same = same_Some _ _ (sym a.4 ∙ (ap (λ z. s.wants z d m) here ∙ c.4)) in
       ap₂ (λ u v. u ∷ v) (ap (λ z. z.0) same)
       (ahead_one x a.1 xs ys a.7 (subst (λ (z : ℕ × ℕ). Ahead s rises d z.0 z.1 ys) (sym same) c.7))
-
-  pub route_one : (o : ℕ) (xs ys : List ℕ) → Route s rises d o xs → Route s rises d o ys → xs ≡ ys
-  route_one o [] ys a c = absurd a
-  route_one o (x ∷ xs) [] a c = absurd c
-  route_one o (x ∷ xs) (y ∷ ys) a c =
-      let same = same_Some _ _ (sym a.1 ∙ c.1) in
-      ap₂ (λ u v. u ∷ v) (ap (λ z. z.0) same)
-      (ahead_one x a.0 xs ys a.3 (subst (λ (z : ℕ × ℕ). Ahead s rises d z.0 z.1 ys) (sym same) c.3))

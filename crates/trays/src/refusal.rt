@@ -4,7 +4,7 @@ ghost use Rattle.trays.specs.Refusals.{refusal_number, refusal_segments};
 pub use map::side::NO_SEGMENT;
 
 /// Why a call of the floor is turned down. Where two numbers follow, they are the segment held
-/// and the segment wanted.
+/// and the segment wanted, in the order in which an answer tells them.
 #[derive(Clone, Copy, PartialEq, Eq, Debug)]
 pub enum Refusal {
     NoSegment,

@@ -10,6 +10,7 @@ pub trait WayFinder {
 
     ghost way: { Self → ℕ → ℕ → ℕ → Option (Side × ℕ) };
 
+    // No default of 0: a trait's body would have to be right of every way-finder's meaning.
     /// The note that a tray carries as it leaves the origin for the destination.
     fn first_note(&self, origin: u8, destination: u8) -> u32
         ensures { result ≡ first self.now origin destination };
