@@ -31,6 +31,8 @@ impl TryFrom<u8> for Side {
 }
 
 impl Side {
+    // A method of each type that has numbers: a trait of all would ask each for the same definition
+    // and the same match.
     pub fn number(self) -> u8
         ensures is { result ≡ side_number self }
         ensures small { result < 4 }

@@ -4,3 +4,4 @@ pub mod Totals
 pub mod Plans
 pub mod Decisions
 pub mod Longest
+pub mod Questions

@@ -9,12 +9,15 @@ ghost use Rattle.plancheck.specs.Totals.{Few};
 ghost use Rattle.plancheck.specs.Plans.{check_pairs, plan_check};
 ghost use Rattle.plancheck.specs.Decisions.{Decided};
 ghost use Rattle.plancheck.specs.Wanted.{AllWanted};
+ghost use Rattle.plancheck.specs.Questions.{routing_in};
 
 pub mod pass;
+mod question;
 
 use map::map::Map;
 use orders::ranker::Ranker;
 use pass::Pass;
+use question::Question;
 use routes::refusal::Refusal;
 use routes::route::check_route;
 use ways::finder::WayFinder;
@@ -26,60 +29,55 @@ pub fn check<W: WayFinder, R: Ranker>(map: &Map, finder: &W, ranker: &R) -> Resu
     ensures decided { Decided (routing W.WayFinder R.Ranker R.Key.KeyOrder map.now finder.now ranker.now) result }
     ensures pairs { AllWanted (layout map.now) }
 {
+    let question = Question {
+        map,
+        finder,
+        ranker,
+    };
     let mut pass = Pass {
         pairs: 0,
         segments: 0,
         longest: 0,
     };
     for origin in 0..=255u8 {
-        pass = check_from(map, finder, ranker, origin, pass)?;
+        pass = question.check_from(origin, pass)?;
     }
     Ok(pass)
 }
 
-// Map, way-finder and ranker come one by one, as at `check_route`.
-/// The routes from the origin, where it is a stop, to each other stop, counted onto what passed
-/// before.
-fn check_from<W: WayFinder, R: Ranker>(
-    map: &Map,
-    finder: &W,
-    ranker: &R,
-    origin: u8,
-    before: Pass,
-) -> Result<Pass, Refusal>
-    requires { Few before 65280 }
-    ensures counted { IfOk result (λ p. Few p (before.pairs + 256)) }
-    ensures is { result ≡ check_pairs (routing W.WayFinder R.Ranker R.Key.KeyOrder map.now finder.now ranker.now) before (pairs_of (layout map.now) origin) }
-{
-    let mut pass = before;
-    if map.is_stop(origin) {
-        for destination in 0..=255u8 {
-            pass = check_pair(map, finder, ranker, origin, destination, pass)?;
+// Table by table: a list of the stops would be a second copy of the map's flags.
+impl<W: WayFinder, R: Ranker> Question<'_, W, R> {
+    /// The routes from the origin, where it is a stop, to each other stop, counted onto what passed
+    /// before.
+    fn check_from(&self, origin: u8, before: Pass) -> Result<Pass, Refusal>
+        requires { Few before 65280 }
+        ensures counted { IfOk result (λ p. Few p (before.pairs + 256)) }
+        ensures is { result ≡ check_pairs (routing_in W.WayFinder R.Ranker R.Key.KeyOrder self.now) before (pairs_of (layout self.now.map.now) origin) }
+    {
+        let mut pass = before;
+        if self.map.is_stop(origin) {
+            for destination in 0..=255u8 {
+                pass = self.check_pair(origin, destination, pass)?;
+            }
         }
+        Ok(pass)
     }
-    Ok(pass)
-}
 
-/// The route of the pair, where the destination is another stop, counted onto what passed before.
-fn check_pair<W: WayFinder, R: Ranker>(
-    map: &Map,
-    finder: &W,
-    ranker: &R,
-    origin: u8,
-    destination: u8,
-    before: Pass,
-) -> Result<Pass, Refusal>
-    requires { Few before 65535 }
-    ensures counted { IfOk result (λ p. Few p (before.pairs + 1)) }
-    ensures is { result ≡ check_pairs (routing W.WayFinder R.Ranker R.Key.KeyOrder map.now finder.now ranker.now) before (facing origin (stop_at (layout map.now) destination)) }
-{
-    if !map.is_stop(destination) || destination == origin {
-        return Ok(before);
+    /// The route of the pair, where the destination is another stop, counted onto what passed
+    /// before.
+    fn check_pair(&self, origin: u8, destination: u8, before: Pass) -> Result<Pass, Refusal>
+        requires { Few before 65535 }
+        ensures counted { IfOk result (λ p. Few p (before.pairs + 1)) }
+        ensures is { result ≡ check_pairs (routing_in W.WayFinder R.Ranker R.Key.KeyOrder self.now) before (facing origin (stop_at (layout self.now.map.now) destination)) }
+    {
+        if !self.map.is_stop(destination) || destination == origin {
+            return Ok(before);
+        }
+        let length = check_route(self.map, self.finder, self.ranker, origin, destination)?;
+        Ok(Pass {
+            pairs: before.pairs + 1,
+            segments: before.segments + u32::from(length),
+            longest: before.longest.max(length),
+        })
     }
-    let length = check_route(map, finder, ranker, origin, destination)?;
-    Ok(Pass {
-        pairs: before.pairs + 1,
-        segments: before.segments + u32::from(length),
-        longest: before.longest.max(length),
-    })
 }

@@ -31,6 +31,7 @@ impl<W: WayFinder> Source<'_, W> {
 /// Writes the plan's file into the buffer, and answers its length. What stands behind the file
 /// stays, and after a refusal the whole buffer is as it was. The file is of the layout; read again,
 /// it gives these entries and keys; and a plan that was read is written again as it was.
+// What it is given comes one by one, as callers have it: within, `Source` holds it.
 pub fn write<W: WayFinder>(
     map: &Map,
     finder: &W,

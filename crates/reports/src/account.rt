@@ -81,6 +81,7 @@ fn figures_of(map: &Map) -> Figures
         width: map.width(),
         height: map.height(),
         stops: map.stop_count(),
+        // a range with a cast: over `0..=255` the count was left unproved
         tables: (0..256u16)
             .filter(|table| map.is_table_closed(*table as u8))
             .count(),

@@ -10,8 +10,7 @@ use orders::key::KeyOrder;
 use orders::ranker::Ranker;
 use ways::finder::WayFinder;
 
-// Map, way-finder and ranker come one by one. In a struct of the three the clauses would name each all
-// the same: a model of it can't stand for them, since a model's value holds no functions.
+// Map, way-finder and ranker come one by one, as callers have them: a tree is both of the last two.
 /// How many segments the route from the origin to the destination has, or its first step that
 /// is refused. Rising keys repeat no segment, so the loop ends on every plan.
 pub fn check_route<W: WayFinder, R: Ranker>(

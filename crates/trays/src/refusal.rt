@@ -5,6 +5,7 @@ pub use map::side::NO_SEGMENT;
 
 /// Why a call of the floor is turned down. Where two numbers follow, they are the segment held
 /// and the segment wanted, in the order in which an answer tells them.
+// Numbers and no `Option`s, as in every answer; and pairs, since the promise's definitions match on them.
 #[derive(Clone, Copy, PartialEq, Eq, Debug)]
 pub enum Refusal {
     NoSegment,

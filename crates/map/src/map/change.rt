@@ -57,6 +57,8 @@ impl Map {
         self.set_segment(segment, false)
     }
 
+    // Marking alone has a limit and a refusal for it: one call for marking and unmarking would be a
+    // switch between the two.
     pub fn mark_stop(&mut self, table: u8) -> Result<(), Refusal>
         ensures outcome { result ≡ told (mark_stop (layout self.old) table) }
         ensures later { layout self.new ≡ after (layout self.old) (mark_stop (layout self.old) table) }
