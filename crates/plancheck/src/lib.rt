@@ -22,6 +22,7 @@ use routes::refusal::Refusal;
 use routes::route::check_route;
 use ways::finder::WayFinder;
 
+// Map, way-finder and ranker one by one, as callers have them; within, `Question` holds them.
 /// Checks the route of each pair of different stops, origins rising, then destinations rising:
 /// what they add up to, or the first that is refused.
 pub fn check<W: WayFinder, R: Ranker>(map: &Map, finder: &W, ranker: &R) -> Result<Pass, Refusal>
