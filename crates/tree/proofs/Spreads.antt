@@ -249,9 +249,6 @@ module _ (m : Layout) (size : Sized m) (r place : ℕ) (g : Growth) (h : Spreadi
       let known : root_in g v ≡ Some r = subst (λ x. root_in g x ≡ Some r) same (root_before q root) in
       (known, h.level v l known)
 
-pub seen_none : (m : Layout) (r place : ℕ) (g : Growth) (s : Side) → near m (placed g place) s ≡ None → Seen m r place s g
-seen_none m r place g s n u e = absurd (none_some u (sym n ∙ e))
-
 pub kept_all : (g : Growth) → Kept g g
 kept_all g = record { roots = λ t r e. e; depths = λ t r e. refl; places = λ i l. refl; more = omega arith }
 

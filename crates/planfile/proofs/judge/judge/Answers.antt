@@ -1,14 +1,7 @@
-use Rattle.std.proofs.Common.{◌≡◌, ◌+◌, ◌-◌, ◌*◌, length, get_or, sym, ap, ◌∙◌, arith}
+use Rattle.std.proofs.Common.{◌≡◌, ◌+◌, ◌*◌, length, get_or, sym, ◌∙◌, arith}
 use Rattle.std.proofs.lemmas.Result.{err_from_is_err_and}
-use Rattle.planfile.specs.Outcomes.{first_from}
 use Rattle.planfile.proofs.Verdicts.{part_refusal, from_more, from_bad, from_none, others_decide}
 use Rattle.planfile.proofs.judge.judge.Goals as goal
-
-pub loop-number-init : goal.loop-number-init
-loop-number-init c =
-    let n = get_or c.args.file.now 6 0 in
-    let less : n + 9 - 1 ≡ n + 8 = omega arith in
-    ap (λ j. first_from c.args.file.now j 1) less
 
 pub returns-in_err-read_block-2 : goal.returns-in_err-read_block-2
 returns-in_err-read_block-2 c =

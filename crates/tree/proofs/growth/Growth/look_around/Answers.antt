@@ -4,12 +4,6 @@ use Rattle.tree.specs.Growths.{count}
 use Rattle.tree.proofs.Spreads.{seen_kept, kept_on, four_seen, taken}
 use Rattle.tree.proofs.growth.Growth.look_around.Goals as goal
 
-pub visit-requires-clause-spreading : goal.visit-requires-clause-spreading
-visit-requires-clause-spreading c = c.loop-side.invariant.spreading
-
-pub visit-requires-clause-within : goal.visit-requires-clause-within
-visit-requires-clause-within c = let more = c.loop-side.invariant.kept.more in omega arith
-
 pub loop-side-preserved : goal.loop-side-preserved
 loop-side-preserved c =
     let so = c.loop-side.invariant in

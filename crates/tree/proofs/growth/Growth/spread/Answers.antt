@@ -1,4 +1,4 @@
-use Rattle.std.proofs.Common.{◌≡◌, suc, ◌+◌, Some, sym, subst, arith}
+use Rattle.std.proofs.Common.{◌≡◌, Some, sym, subst, arith}
 use Rattle.map.specs.Layouts.{layout}
 use Rattle.links.proofs.Nearby.{map_sized, present_small}
 use Rattle.tree.specs.Growths.{count, root_in, Sound, Spreading, Kept}
@@ -13,11 +13,6 @@ loop-place-init c =
     let small = present_small _ (map_sized c.args.map.now) _ c.requires.there in
     let begun = subst (λ g. Spreading (layout c.args.map.now) c.args.root (count c.args.self.now) g) (sym c.reach.ensures) (begins _ _ _ c.requires.sound small c.requires.fresh c.requires.there c.requires.lowest) in
     (subst (λ n. Spreading (layout c.args.map.now) c.args.root n c.reach.new.self) (sym c.len-place.ensures.value) begun, kept_all _)
-
-pub loop-place-preserved : goal.loop-place-preserved
-loop-place-preserved c =
-    let next : suc c.loop-place.place ≡ c.loop-place.place + 1 = omega arith in
-    (subst (λ p. Spreading (layout c.args.map.now) c.args.root p c.look_around.new.self) next c.look_around.ensures.spreading, kept_on _ _ _ c.loop-place.invariant.1 c.look_around.ensures.kept)
 
 pub returns : goal.returns
 returns c =

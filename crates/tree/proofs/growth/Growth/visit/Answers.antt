@@ -4,7 +4,7 @@ use Rattle.links.specs.Links.{near}
 use Rattle.links.proofs.Nearby.{map_sized}
 use Rattle.links.proofs.Grown.{some_is, none_is}
 use Rattle.tree.specs.Growths.{count, depth_in, Spreading, Seen, Kept}
-use Rattle.tree.proofs.Spreads.{room, within, spreading_new, kept_new, seen_new, seen_old, seen_none, kept_all}
+use Rattle.tree.proofs.Spreads.{room, within, spreading_new, kept_new, seen_new, seen_old, kept_all}
 use Rattle.tree.proofs.growth.Growth.visit.Goals as goal
 
 pub overflow_add-depth : goal.overflow_add-depth
@@ -21,13 +21,6 @@ reach-requires c =
     let h = c.requires.spreading in
     let over = ap (λ t. near (layout c.args.map.now) t c.args.side) (sym c.placed-table.ensures) ∙ sym c.near.ensures ∙ c.in-Some.is in
     room _ _ _ _ h.sound (within _ (map_sized c.args.map.now) _ _ _ h c.requires.within _ _ over) (sym c.root.ensures ∙ none_is _ c.if-is_none.ensures)
-
-pub returns-in_default : goal.returns-in_default
-returns-in_default c = record {
-  spreading = c.requires.spreading;
-  kept = kept_all c.args.self.now;
-  seen = seen_none (layout c.args.map.now) c.args.root c.args.place c.args.self.now c.args.side (ap (λ t. near (layout c.args.map.now) t c.args.side) (sym c.placed-table.ensures) ∙ sym c.near.ensures ∙ c.in_default.is);
-}
 
 pub returns-then-is_none : goal.returns-then-is_none
 returns-then-is_none c =
