@@ -7,4 +7,3 @@ pub mod Layouts
 pub mod Readings
 pub mod Rewriting
 pub mod Again
-pub mod Made

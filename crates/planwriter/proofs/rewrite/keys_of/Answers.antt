@@ -1,7 +1,7 @@
 use Rattle.std.proofs.Common.{rules, tests}
 use Rattle.planfile.specs.Plans.{key_in}
 use Rattle.planwriter.specs.Promises.{keys_in}
-use Rattle.planwriter.proofs.Made.{made}
+use Rattle.arrays.proofs.Made.{made}
 use Rattle.planwriter.proofs.rewrite.keys_of.Goals as goal
 
 pub returns : goal.returns

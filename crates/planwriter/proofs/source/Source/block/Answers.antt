@@ -4,7 +4,7 @@ use Rattle.std.specs.List.{range_with_len}
 use Rattle.blocks.specs.Words.{word_sum, big_endian}
 use Rattle.planwriter.specs.Files.{Source, block_byte, block_of}
 use Rattle.planwriter.specs.Written.{source_in}
-use Rattle.planwriter.proofs.Made.{made}
+use Rattle.arrays.proofs.Made.{made}
 use Rattle.planwriter.proofs.Pieces.{closed_block}
 use Rattle.planwriter.proofs.source.Source.block.Goals as goal
 

@@ -7,7 +7,7 @@ use Rattle.links.proofs.Told.{ways_meant, keys_meant}
 use Rattle.tree.specs.declared.tree.Tree.{Tree}
 use Rattle.tree.specs.Finders.{Holds}
 use Rattle.tree.specs.Nodes.{alone, node_in}
-use Rattle.tree.proofs.Fills.{made}
+use Rattle.arrays.proofs.Made.{made_at}
 use Rattle.tree.proofs.Held.{held, ways_held, keys_held}
 use Rattle.tree.proofs.tree.Tree.new.Goals as goal
 
@@ -18,5 +18,5 @@ returns c =
     let g = c.grow-growth.result in
     let w : Tree = record { nodes = c.from_fn.result } in
     let held : Holds m w = held m size g (search rules) c.grow-growth.ensures.roots c.grow-growth.ensures.depths w c.from_fn.ensures.items.long
-    (λ t l. made _ _ (node_in m g) (λ i y q k. search (rules, tests)) c.from_fn.result 256 c.from_fn.ensures.items t l alone) in
+    (λ t l. made_at _ _ (node_in m g) (λ i y q k. search (rules, tests)) c.from_fn.result 256 c.from_fn.ensures.items t alone l) in
     record { holds = held; ways = ways_held m size w held; keys = keys_held m size w held; meaning = meaning m size; meant_ways = ways_meant m size; meant_keys = keys_meant m size; leads = leads m size }

@@ -17,5 +17,8 @@ module _ {F B : Type 0} (g : Mut F (ℕ × Unit {0}) B) (f : F) (h : ℕ → B) 
       (λ later. element ys (i + 1) n on k d (omega (arith, later)) (omega arith))
       (cases_eq k i)
 
+  pub made_at : (ys : List B) (n : ℕ) → IsFromFnResult g f ys n → (k : ℕ) (d : B) → k < n → get_or ys k d ≡ h k
+  made_at ys n m k d l = element ys 0 n m.each k d (omega arith) (omega arith)
+
   pub made : (ys : List B) (n : ℕ) (d : B) → IsFromFnResult g f ys n → ys ≡ map h (range_with_len 0 n)
-  made ys n d m = fill_by_all h ys n d m.long (λ k l. element ys 0 n m.each k d (omega arith) (omega arith))
+  made ys n d m = fill_by_all h ys n d m.long (λ k l. made_at ys n m k d l)
