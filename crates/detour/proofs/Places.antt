@@ -1,18 +1,21 @@
 -- Places one after another.
 use Rattle.std.proofs.Common.{◌≡◌, ℕ, zero, suc, ◌+◌, ◌<◌, ◌≤◌, ltb, true, false, cond, List, [], ◌∷◌, map, get_or, sym, Some, None, Option, refl, ap, ◌∙◌, inl, inr, length, arith}
-use Rattle.std.specs.List.{find, flat_map, position}
-use Rattle.std.specs.Option.{option_map, option_to_list, is_none}
+use Rattle.std.specs.List.{find, position}
+use Rattle.std.specs.Option.{is_none}
 use Rattle.std.proofs.lemmas.Bool.{cases_Bool, cond-true, lt-ltb, le-ltb, ltb-true, ltb-false}
 use Rattle.std.proofs.lemmas.List.{same_lists, get_or-map}
 use lib.ListN.{length-map}
 use Rattle.detour.specs.declared.vias.Via.{Via}
-use Rattle.detour.specs.Vias.{matches, via_in, later, free_in, cleared}
+use Rattle.detour.specs.Vias.{matches, table_in, via_in, later, free_in, cleared}
 
--- the first via that is the pair's, among those that there are
-pub first_of : (ps : List (Option Via)) (o d : ℕ) → option_map (λ v. v.table) (find (λ v. matches o d (Some v)) (flat_map option_to_list ps)) ≡ via_in ps o d
+-- the table in the first place that holds the pair's via
+abbrev pub table_found : Option (Option Via) → Option ℕ
+table_found None = None
+table_found (Some p) = table_in p
+
+pub first_of : (ps : List (Option Via)) (o d : ℕ) → table_found (find (matches o d) ps) ≡ via_in ps o d
 first_of [] o d = refl
-first_of (None ∷ ps) o d = first_of ps o d
-first_of (Some v ∷ ps) o d = elim (cases_Bool (matches o d (Some v))) [ inl m ↦ rw m | inr m ↦ rw m (first_of ps o d) ]
+first_of (p ∷ ps) o d = elim (cases_Bool (matches o d p)) [ inl m ↦ rw m | inr m ↦ rw m (first_of ps o d) ]
 
 later_at : (n m : ℕ) → cond (ltb (1 + n) (suc m)) (Some (1 + n)) None ≡ later (cond (ltb n m) (Some n) None)
 later_at n m =

@@ -36,12 +36,9 @@ impl Vias {
     pub(crate) fn find(&self, origin: u8, destination: u8) -> Option<u8>
         ensures { result ≡ via_for self.now origin destination }
     {
-        self.places
-            .iter()
-            .copied()
-            .flatten()
-            .find(|via| via.is_of(origin, destination))
-            .map(|via| via.table)
+        let mut places = self.places.iter();
+        let place = places.find(|place| place.is_some_and(|via| via.is_of(origin, destination)))?;
+        place.map(|via| via.table)
     }
 
     /// The first place that holds no via.
@@ -58,7 +55,9 @@ impl Vias {
         ensures { self.new ≡ without self.old origin destination }
     {
         for place in &mut self.places {
-            *place = place.filter(|via| !via.is_of(origin, destination));
+            if place.is_some_and(|via| via.is_of(origin, destination)) {
+                *place = None;
+            }
         }
     }
 }

@@ -6,6 +6,8 @@ use Rattle.routes.specs.Refusals as OfRoutes
 use Rattle.trays.specs.Refusals as OfTrays
 use Rattle.engine.specs.declared.outcome.Refused as Refusals
 use Rattle.engine.specs.declared.outcome.Refused.TheVariants.{ByMap, ByDetour, ByCheck, ByFloor}
+use Rattle.engine.specs.declared.outcome.Failure.{Failure}
+use Rattle.engine.specs.declared.outcome.Failure.TheVariants as Failures
 use Rattle.engine.specs.declared.outcome.Outcome.{Outcome}
 use Rattle.engine.specs.declared.outcome.Outcome.TheVariants.{Done, Drawn, Passed, LetIn, Advanced, SegmentsLeft, Seen, Counted}
 
@@ -56,3 +58,8 @@ outcome_text (Counted a) =
     codes "in " ++ (decimal a.entered
     ++ (codes ", delivered " ++ (decimal a.delivered
     ++ (codes ", floor " ++ decimal a.on_floor))))
+
+-- what is printed of a failure: of a refusal its text; what is printed of an error is not stated
+abbrev pub failure_text : Failure → Option (List ℕ)
+failure_text (Failures.Refused e) = Some (refused_text e)
+failure_text (Failures.Wrong w) = None

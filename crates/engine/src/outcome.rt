@@ -2,7 +2,7 @@ ghost use Rattle.std.specs.Prelude.{◌≡◌, Some};
 ghost use Rattle.engine.specs.declared.outcome.Refused.TheVariants.{ByMap, ByDetour, ByCheck, ByFloor};
 ghost use Rattle.engine.specs.declared.outcome.Wrong.TheVariants.{Said};
 ghost use Rattle.engine.specs.declared.outcome.Failure.TheVariants as Failures;
-ghost use Rattle.engine.specs.Texts.{outcome_text, refused_text};
+ghost use Rattle.engine.specs.Texts.{outcome_text, refused_text, failure_text};
 
 use detour::refusal::Refusal as ViaRefusal;
 use floor::floor::{Counts, Entered, Moved};
@@ -175,6 +175,18 @@ impl fmt::Display for Outcome {
                 "in {}, delivered {}, floor {}",
                 counts.entered, counts.delivered, counts.on_floor
             ),
+        }
+    }
+}
+
+// By hand: no clause states what a derive writes.
+impl fmt::Display for Failure {
+    ghost output = { λ f. failure_text f };
+
+    fn fmt<W: fmt::Write>(&self, f: &mut fmt::Formatter<W>) -> fmt::Result {
+        match self {
+            Failure::Refused(refused) => write!(f, "{refused}"),
+            Failure::Wrong(why) => write!(f, "{why}"),
         }
     }
 }

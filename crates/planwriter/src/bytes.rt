@@ -1,6 +1,8 @@
 // The bytes of a block, each by its place in the block. The ranges of places stand again where a
 // plan is read: here they make each byte, there they judge any. A shared enum of spots would only
-// stand between each range and what it means.
+// stand between each range and what it means. In the blocks of ways and of keys, and at a block's
+// start, places are compared: by a `match` on ranges a plan by row-first takes nearly half as long
+// again to write.
 ghost use Rattle.std.specs.Prelude.{◌≡◌, ◌+◌, ◌<◌, ◌≤◌, length};
 ghost use Rattle.planwriter.specs.Files.{entry_number, head_byte, way_byte, key_half, key_byte, content_byte, content_of, block_byte};
 ghost use Rattle.planwriter.specs.Written.{source_in};
@@ -63,26 +65,30 @@ impl<W: WayFinder> Source<'_, W> {
     fn way_byte(&self, stop: u8, place: usize) -> u8
         ensures { result ≡ way_byte (source_in W.WayFinder self.now).entry stop place }
     {
-        match place {
-            0..=4 => stop,
-            8..=135 => {
-                let table = (2 * (place - 8)) as u8;
-                self.entry(stop, table) * 16 + self.entry(stop, table + 1)
-            }
-            _ => 0,
+        if place < 5 {
+            stop
+        } else if place < 8 {
+            0
+        } else if place < 136 {
+            let table = (2 * (place - 8)) as u8;
+            self.entry(stop, table) * 16 + self.entry(stop, table + 1)
+        } else {
+            0
         }
     }
 
     fn key_byte(&self, part: u8, place: usize) -> u8
         ensures { result ≡ key_byte (source_in W.WayFinder self.now).key part place }
     {
-        match place {
-            0..=4 => part,
-            8..=263 => {
-                let segment = 128 * u16::from(part) + ((place - 8) / 2) as u16;
-                key_half(place, self.key(segment))
-            }
-            _ => 0,
+        if place < 5 {
+            part
+        } else if place < 8 {
+            0
+        } else if place < 264 {
+            let segment = 128 * u16::from(part) + ((place - 8) / 2) as u16;
+            key_half(place, self.key(segment))
+        } else {
+            0
         }
     }
 
@@ -125,11 +131,10 @@ impl<W: WayFinder> Source<'_, W> {
     pub(crate) fn block_byte(&self, content: Content, number: u8, place: usize) -> u8
         ensures { result ≡ block_byte (source_in W.WayFinder self.now) content number place }
     {
-        match place {
-            0 => content.kind(),
-            1 => number,
-            2 | 3 => 0,
-            _ => self.content_byte(content, place),
+        if place >= 4 {
+            self.content_byte(content, place)
+        } else {
+            [content.kind(), number, 0, 0][place]
         }
     }
 }

@@ -15,6 +15,8 @@ use Rattle.engine.specs.declared.plan.Plan.{Plan}
 use Rattle.engine.specs.declared.session.Session.{Session}
 use Rattle.engine.specs.Tallies.{tally_text}
 use Rattle.reports.specs.declared.account.Figures.{Figures}
+use Rattle.reports.specs.declared.account.Said.{Said}
+use Rattle.reports.specs.declared.account.Said.TheVariants.{NotChecked, Passes, RefusedBy}
 use Rattle.reports.specs.Numbers.{how_many_below}
 
 -- the map's size, its stops, and how much of it is closed
@@ -51,10 +53,18 @@ name_text (ByTree w) false = codes "tree"
 name_text (ByTree w) true = codes "tree with detour"
 
 -- what the check said of the map and the plan as they are now
+abbrev pub said_of : Option (Result Pass Refusal) → Said
+said_of None = NotChecked
+said_of (Some (Ok a)) = Passes
+said_of (Some (Err e)) = RefusedBy (reason_number e.reason)
+
+abbrev pub said_text : Said → List ℕ
+said_text NotChecked = codes "not checked"
+said_text Passes = codes "pass"
+said_text (RefusedBy n) = codes "refused " ++ decimal n
+
 abbrev pub verdict_text : Option (Result Pass Refusal) → List ℕ
-verdict_text None = codes "not checked"
-verdict_text (Some (Ok a)) = codes "pass"
-verdict_text (Some (Err e)) = codes "refused " ++ decimal (reason_number e.reason)
+verdict_text o = said_text (said_of o)
 
 abbrev pub plan_line : Plan → List ℕ
 plan_line p = name_text p.named (has_detour p.finder) ++ (codes ": " ++ verdict_text p.verdict)

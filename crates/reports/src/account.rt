@@ -1,5 +1,5 @@
 ghost use Rattle.std.specs.Prelude.{◌≡◌, Some};
-ghost use Rattle.reports.specs.Accounts.{account_text, figures_of, figures_text, map_text, or_none, plan_line, plan_text, counts_text, floor_text, verdict_text, has_detour, name_text};
+ghost use Rattle.reports.specs.Accounts.{account_text, figures_of, figures_text, map_text, or_none, plan_line, plan_text, counts_text, floor_text, said_of, said_text, has_detour, name_text};
 ghost use Rattle.floor.specs.Floors.{counts_fields};
 ghost use Rattle.map.specs.Layouts.{layout};
 
@@ -22,7 +22,7 @@ struct OrNone<T>(Option<T>);
 
 /// What is told of a map.
 #[derive(Clone, Copy)]
-struct Figures {
+pub struct Figures {
     width: u8,
     height: u8,
     stops: u8,
@@ -34,9 +34,14 @@ struct Figures {
 #[derive(Clone, Copy)]
 struct PlanTold<'a>(&'a Plan);
 
-/// What the check said of the map and the plan as they are now.
+/// What the check said of the map and the plan as they are now. Public, as its text is stated: a
+/// caller can make one.
 #[derive(Clone, Copy)]
-struct VerdictTold(Option<Result<Pass, Refusal>>);
+pub enum Said {
+    NotChecked,
+    Passes,
+    RefusedBy(u8),
+}
 
 /// How many trays a floor had, delivered and has.
 #[derive(Clone, Copy)]
@@ -124,18 +129,30 @@ impl fmt::Display for PlanTold<'_> {
     ghost output = { λ a. Some (plan_line a.0.now) };
 
     fn fmt<W: fmt::Write>(&self, f: &mut fmt::Formatter<W>) -> fmt::Result {
-        write!(f, "{}: {}", name_of(self.0), VerdictTold(self.0.verdict))
+        write!(f, "{}: {}", name_of(self.0), Said::of(self.0.verdict))
     }
 }
 
-impl fmt::Display for VerdictTold {
-    ghost output = { λ a. Some (verdict_text a.0) };
+impl Said {
+    fn of(verdict: Option<Result<Pass, Refusal>>) -> Said
+        ensures { result ≡ said_of verdict }
+    {
+        match verdict {
+            None => Said::NotChecked,
+            Some(Ok(_)) => Said::Passes,
+            Some(Err(refusal)) => Said::RefusedBy(refusal.reason.number()),
+        }
+    }
+}
+
+impl fmt::Display for Said {
+    ghost output = { λ a. Some (said_text a) };
 
     fn fmt<W: fmt::Write>(&self, f: &mut fmt::Formatter<W>) -> fmt::Result {
-        match self.0 {
-            None => write!(f, "not checked"),
-            Some(Ok(_)) => write!(f, "pass"),
-            Some(Err(refusal)) => write!(f, "refused {}", refusal.reason.number()),
+        match self {
+            Said::NotChecked => write!(f, "not checked"),
+            Said::Passes => write!(f, "pass"),
+            Said::RefusedBy(number) => write!(f, "refused {number}"),
         }
     }
 }

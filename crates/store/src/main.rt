@@ -27,8 +27,8 @@ fn told(
     match session.make(words.as_slice()) {
         Ok(Outcome::Drawn) => format!(in heap; "{said} -> ok\n{}", Picture(session)),
         Ok(outcome) => format!(in heap; "{said} -> {outcome}\n"),
-        Err(Failure::Refused(refused)) => format!(in heap; "{said} -> {refused}\n"),
         Err(Failure::Wrong(wrong)) => format!(in heap; "line {number}: {wrong}: {said}\n"),
+        Err(refused) => format!(in heap; "{said} -> {refused}\n"),
     }
 }
 

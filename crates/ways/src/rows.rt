@@ -5,7 +5,6 @@ use crate::finder::WayFinder;
 use map::side::Side;
 use orders::key::Pair;
 use orders::ranker::Ranker;
-use std::cmp::Ordering;
 
 /// Along the row to the destination's column, then along the column: a way-finder, and its
 /// ranker. It knows no map, and answers for every table.
@@ -24,16 +23,18 @@ impl WayFinder for RowFirst {
     fn way(&self, table: u8, destination: u8, note: u32) -> Option<(Side, u32)> {
         let (column, row) = (table % 16, table / 16);
         let (to_column, to_row) = (destination % 16, destination / 16);
-        let side = match column.cmp(&to_column) {
-            Ordering::Less => Side::East,
-            Ordering::Greater => Side::West,
-            Ordering::Equal => match row.cmp(&to_row) {
-                Ordering::Less => Side::South,
-                Ordering::Greater => Side::North,
-                Ordering::Equal => return None,
-            },
-        };
-        Some((side, 0))
+        // By tests: by `cmp` a way takes nearly twice the time, and so does a detour's over it.
+        if column < to_column {
+            Some((Side::East, 0))
+        } else if to_column < column {
+            Some((Side::West, 0))
+        } else if row < to_row {
+            Some((Side::South, 0))
+        } else if to_row < row {
+            Some((Side::North, 0))
+        } else {
+            None
+        }
     }
 }
 

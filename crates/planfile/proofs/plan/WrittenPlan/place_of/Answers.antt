@@ -1,14 +1,25 @@
-use Rattle.std.proofs.Common.{◌≡◌, rules, tests, arith}
-use Rattle.std.proofs.lemmas.Iterator.{first_from_Range}
-use Rattle.planfile.specs.Plans.{stop_at}
-use Rattle.planfile.proofs.Searches.{searched}
+use Rattle.std.proofs.Common.{◌≡◌, ◌+◌, ◌<◌, ◌≤◌, get_or, sym, ◌∙◌, arith, rules}
+use Rattle.planfile.proofs.Searches.{seek_here, seek_on, seek_none}
 use Rattle.planfile.proofs.plan.WrittenPlan.place_of.Goals as goal
+
+pub returns-then-byte-table : goal.returns-then-byte-table
+returns-then-byte-table c =
+    let file = c.args.self.now.file.now in
+    let i = c.loop-i.i in
+    let within : i < get_or file 6 0 = omega arith in
+    let here : get_or file (8 + i) 0 ≡ c.args.table = search rules in
+    sym (seek_here file c.args.table (get_or file 6 0) i within here) ∙ c.loop-i.invariant
+
+pub loop-i-preserved : goal.loop-i-preserved
+loop-i-preserved c =
+    let file = c.args.self.now.file.now in
+    let i = c.loop-i.i in
+    let within : i < get_or file 6 0 = omega arith in
+    sym (seek_on file c.args.table (get_or file 6 0) i within (λ e. c.if-byte-table.false (search rules))) ∙ c.loop-i.invariant
 
 pub returns : goal.returns
 returns c =
     let file = c.args.self.now.file.now in
-    let table = c.args.table in
-    searched file table _ _ c.find.result c.stop_count.ensures
-    (first_from_Range _ _ _ _ (λ i. stop_at file i ≡ table) (λ i. stop_at file i ≡ table → ⊥) c.find.ensures.ran
-    (λ x q k. search (rules, tests))
-    (λ x q k. (search rules, grind (arith, tests))))
+    let i = c.loop-i.i in
+    let past : get_or file 6 0 ≤ i = omega arith in
+    sym (seek_none file c.args.table (get_or file 6 0) i past) ∙ c.loop-i.invariant
